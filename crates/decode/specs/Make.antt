@@ -1,0 +1,36 @@
+-- Which instruction the diagrams of one layout make, by their place in the list.
+use Prim.Native.Nat.{ℕ}
+use mathlib.Core.Bool.{cond}
+use lib.Bits.{bitAnd}
+use lib.Dec.{eqb}
+use Rattle.isa.specs.Diagram.{Diagram, Fields, fieldIn, unknownMask}
+use Rattle.isa.specs.Decode.{rowAt}
+use Rattle.isa.specs.declared.instruction.Bitfield.{Bitfield}
+use Rattle.isa.specs.declared.instruction.Shift.{Shift}
+use Rattle.isa.specs.declared.instruction.Scan.{Scan}
+use Rattle.isa.specs.declared.instruction.Compare.{Compare}
+use Rattle.isa.specs.declared.instruction.Instruction.{Instruction}
+
+abbrev pub bitfieldAt : ℕ → Bitfield → Instruction
+bitfieldAt place x =
+    cond (eqb place 5) (Instruction.Bfi x)
+    (cond (eqb place 6) (Instruction.Bfeil x)
+    (cond (eqb place 7) (Instruction.Extr x) (cond (eqb place 8) (Instruction.Shlhi x) (Instruction.Shrhi x))))
+
+abbrev pub shiftAt : ℕ → Shift → Instruction
+shiftAt place x = cond (eqb place 10) (Instruction.Asr x) (Instruction.Asrh x)
+
+abbrev pub scanAt : ℕ → Scan → Instruction
+scanAt place x =
+    cond (eqb place 13) (Instruction.Bitrev x) (cond (eqb place 14) (Instruction.Popcount x) (Instruction.Ffs x))
+
+abbrev pub compareAt : ℕ → Compare → Instruction
+compareAt place x =
+    cond (eqb place 19) (Instruction.IfIcmp x) (cond (eqb place 20) (Instruction.WhileIcmp x) (Instruction.ElseIcmp x))
+
+-- the fields and the "?" bits that the diagram at a place has in the word w
+abbrev pub fieldsAt : ℕ → ℕ → Fields
+fieldsAt place w = fieldIn (rowAt place .fields) w
+
+abbrev pub keptAt : ℕ → ℕ → ℕ
+keptAt place w = bitAnd w (unknownMask (rowAt place .unknowns))

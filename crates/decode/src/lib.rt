@@ -1,0 +1,2 @@
+// Decoding one instruction.
+mod operand;

@@ -1,0 +1,10 @@
+pub mod Refusal
+pub mod Text
+pub mod Word
+pub mod Operand
+pub mod Diagram
+pub mod Read
+pub mod Rows
+pub mod Find
+pub mod Decode
+pub mod Place

@@ -1,0 +1,9 @@
+-- The refusal numbers, from the table "Refusal numbers" of the statement of what to build.
+use Prim.Native.Nat.{ℕ}
+use Rattle.isa.specs.declared.answer.Refusal.{Refusal}
+
+abbrev pub numberOf : Refusal → ℕ
+numberOf Refusal.BadSize = 1
+numberOf Refusal.CutShort = 2
+numberOf Refusal.NoDiagram = 3
+numberOf Refusal.NoMeaning = 4

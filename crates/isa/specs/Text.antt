@@ -1,0 +1,9 @@
+-- Quoted text as the list of its characters' numbers, which are the bytes of ASCII text.
+use Prim.Native.Nat.{ℕ}
+use Prim.Native.Char.{Char, code}
+use Prim.Native.String.{String}
+use mathlib.Core.List.{List, [], _∷_}
+
+abbrev pub ascii : String → List ℕ
+ascii String.[] = []
+ascii (String._∷_ c s) = code c ∷ ascii s

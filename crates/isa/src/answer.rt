@@ -1,0 +1,43 @@
+// The answers of finding, reading and decoding, and the refusals with their numbers.
+ghost use mathlib.Core.Path.{_≡_};
+ghost use Rattle.isa.specs.Refusal.{numberOf};
+
+use crate::instruction::Instruction;
+
+// Why a call is refused. specs/Refusal.antt has the number of each.
+pub enum Refusal {
+    BadSize,
+    CutShort,
+    NoDiagram,
+    NoMeaning,
+}
+
+// What the finding rule answers: the place of a diagram in the list, counted from 0, and the length of the instruction in bytes.
+pub enum Find {
+    At(usize, usize),
+    CutShort,
+    NoDiagram,
+}
+
+// What reading the word of a diagram answers.
+pub enum Reading {
+    Is(Instruction),
+    NoMeaning,
+}
+
+// What decoding answers: the instruction with its length in bytes, or the refusal.
+pub enum Decoded {
+    Found(Instruction, usize),
+    Refused(Refusal),
+}
+
+pub fn number(r: Refusal) -> u8
+    ensures { λ n. ⌜ n ≡ numberOf r ⌝ }
+{
+    match r {
+        Refusal::BadSize => 1,
+        Refusal::CutShort => 2,
+        Refusal::NoDiagram => 3,
+        Refusal::NoMeaning => 4,
+    }
+}

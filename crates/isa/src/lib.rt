@@ -1,0 +1,5 @@
+// The G13 instruction set: operands, instructions, and the answers of finding and decoding.
+// What the bytes of an instruction mean stands in specs/.
+pub mod answer;
+pub mod instruction;
+pub mod operand;

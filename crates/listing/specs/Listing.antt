@@ -1,0 +1,46 @@
+-- The text of a listing, as "The lister" of the statement of what to build fixes it.
+use Prim.Native.Nat.{ℕ, _+_, _/_, _%_}
+use mathlib.Core.Bool.{cond}
+use mathlib.Core.List.{List, [], _∷_, _++_}
+use lib.Dec.{ltb, leb}
+use lib.ListN.{length, drop}
+use Rattle.isa.specs.Text.{ascii}
+use Rattle.isa.specs.Refusal.{numberOf}
+use Rattle.isa.specs.Place.{headingOf}
+use Rattle.isa.specs.declared.answer.Refusal.{Refusal}
+use Rattle.listing.specs.Walk.{Walk, ended, refused, stepped, walkOf}
+use Rattle.listing.specs.declared.Listed.{Listed}
+
+-- an upper-case hexadecimal digit: 0 to 9 are the characters from 48, A to F those from 65
+abbrev pub digit : ℕ → ℕ
+digit n = cond (ltb n 10) (n + 48) (n + 55)
+
+abbrev pub hexByte : ℕ → List ℕ
+hexByte b = digit (b / 16) ∷ digit (b % 16) ∷ []
+
+abbrev pub hexBytes : List ℕ → List ℕ
+hexBytes [] = []
+hexBytes (b ∷ bs) = hexByte b ++ hexBytes bs
+
+-- four digits
+abbrev pub hexAddress : ℕ → List ℕ
+hexAddress at = hexByte (at / 256) ++ hexByte (at % 256)
+
+-- one line for each instruction: address, bytes, heading word; then `end`, or `refused` with the number, at the place it stopped
+unfoldable pub textOf : Walk → List ℕ
+textOf (ended at) = hexAddress at ++ ascii " end\n"
+textOf (refused at r) = hexAddress at ++ ascii " refused " ++ digit (numberOf r) ∷ ascii "\n"
+textOf (stepped at bytes i w) =
+    hexAddress at ++ ascii " " ++ hexBytes bytes ++ ascii " " ++ ascii (headingOf i) ++ ascii "\n" ++ textOf w
+
+unfoldable pub listingOf : List ℕ → List ℕ
+listingOf code = textOf (walkOf code)
+
+-- ---- the call: a text with too little room is refused, and nothing is written
+
+abbrev pub listedOf : List ℕ → ℕ → Listed
+listedOf code room = cond (leb (length (listingOf code)) room) (Listed.Wrote (length (listingOf code))) (Listed.Refused Refusal.BadSize)
+
+-- the listing at the start of what stood there
+abbrev pub leftBy : List ℕ → List ℕ → List ℕ
+leftBy code old = cond (leb (length (listingOf code)) (length old)) (listingOf code ++ drop (length (listingOf code)) old) old
