@@ -1,2 +1,4 @@
 // Decoding one instruction.
 mod operand;
+mod read;
+mod table;
