@@ -1,1 +1,4 @@
 pub mod Forms
+pub mod First
+pub mod Steps
+pub mod Decoding

@@ -1,0 +1,36 @@
+-- From what the functions on the word answer to what the bytes decode to.
+use mathlib.Core.Path.{_≡_, refl, sym, ap, ap₂, _∙_, subst}
+use mathlib.Core.Bool.{false}
+use mathlib.Core.List.{List}
+use Prim.Native.Nat.{ℕ, _*_, _≤_, _<_, min}
+use native.Mathlib.Omega.{arith}
+use lib.Bits.{bitAnd, and-mask}
+use lib.ListN.{length, take}
+use Rattle.bits.specs.Word.{le, wordOf, ones}
+use Rattle.bits.proofs.Laws.{Bytes, first-bytes}
+use Rattle.isa.specs.Find.{forms, findOf}
+use Rattle.isa.specs.Decode.{readAt, decodedOf, readFound, decodeOf}
+use Rattle.isa.specs.declared.answer.Find.{Find}
+use Rattle.isa.specs.declared.answer.Reading.{Reading}
+use Rattle.decode.specs.First.{firstOf, Within}
+use Rattle.decode.proofs.First.{first-is-found}
+
+pub within : (f : Find) (p n : ℕ) → Within f → f ≡ Find.At p n → (p < 22) × (n < 9)
+within f p n h e = subst Within e h
+
+module _ (s : List ℕ) (hs : Bytes s) (w n : ℕ) (f : Find) (ew : w ≡ wordOf s) (en : n ≡ min 8 (length s))
+  (ef : f ≡ firstOf forms false w n) where
+
+  pub found : f ≡ findOf s
+  found = ef ∙ ap₂ (λ (x y : ℕ). firstOf forms false x y) ew en ∙ first-is-found s hs
+
+  pub decoded : (g : Find) → f ≡ g → readFound g s ≡ decodeOf s
+  unfolding decodeOf
+  decoded g e = ap (λ (x : Find). readFound x s) (sym e ∙ found)
+
+  -- the word cut to the bytes that were found is read
+  pub decoded-at : (p m o : ℕ) (r : Reading) → f ≡ Find.At p m → m < 9 → o ≡ ones m → r ≡ readAt p (bitAnd w o) → decodedOf r m ≡ decodeOf s
+  decoded-at p m o r e h eo er =
+      let cut : bitAnd w o ≡ le (take m s) =
+            ap₂ bitAnd ew eo ∙ and-mask (wordOf s) (8 * m) ∙ sym (first-bytes m s hs (omega arith)) in
+      ap (λ (x : Reading). decodedOf x m) (er ∙ ap (readAt p) cut) ∙ decoded (Find.At p m) e

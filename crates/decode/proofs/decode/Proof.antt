@@ -1,0 +1,66 @@
+use mathlib.Core.Path.{_∙_}
+use Rattle.decode.proofs.Decoding.{within, decoded, decoded-at}
+use borrow.Author.Needs.{needs}
+use Rattle.decode.proofs.decode.Statement.{statement}
+use Rattle.decode.proofs.decode.Tie as tie
+
+word-requires : tie.Need-word-requires
+word-requires c κs = search needs
+
+held-requires : tie.Need-held-requires
+held-requires c κs = search needs
+
+find-first-requires : tie.Need-find-first-requires
+find-first-requires c κs = search needs
+
+enum-known-place : tie.Need-enum-known-place
+enum-known-place c = search needs
+
+ones-of-requires : tie.Need-ones-of-requires
+ones-of-requires c κs = within _ _ _ (c .before .before .before .find-first .ensures .1) (c .before .place .given .1) .1
+
+read-requires : tie.Need-read-requires
+read-requires c κs = within _ _ _ (c .before .before .before .before .find-first .ensures .1) (c .before .before .place .given .1) .0
+
+decoded-requires : tie.Need-decoded-requires
+decoded-requires c κs = search needs
+
+enum-told : tie.Need-enum-told
+enum-told c = search needs
+
+enum-told-2 : tie.Need-enum-told-2
+enum-told-2 c = search needs
+
+returns : tie.Need-returns
+returns c =
+    c .decoded .ensures
+    ∙ decoded-at (c .before .before .before .before .before .before .before .before .before .before .args .code .now) (λ j. c .before .before .before .before .before .before .before .before .before .shared-slice-known .given j .fits) _ _ _ (c .before .before .before .before .before .before .before .before .word .ensures)
+    (c .before .before .before .before .before .before .before .held .ensures) (c .before .before .before .before .before .before .find-first .ensures .0) _ _ _ _ (c .before .before .before .before .place .given .1)
+      (within _ _ _ (c .before .before .before .before .before .before .find-first .ensures .1) (c .before .before .before .before .place .given .1) .1) (c .before .before .ones-of .ensures) (c .before .read .ensures)
+
+returns-2 : tie.Need-returns-2
+returns-2 c =
+    decoded (c .before .before .before .before .before .before .args .code .now) (λ j. c .before .before .before .before .before .shared-slice-known .given j .fits) _ _ _ (c .before .before .before .before .word .ensures)
+    (c .before .before .before .held .ensures) (c .before .before .find-first .ensures .0) _ (c .enum-told .given .1)
+
+returns-3 : tie.Need-returns-3
+returns-3 c =
+    decoded (c .before .before .before .before .before .before .args .code .now) (λ j. c .before .before .before .before .before .shared-slice-known .given j .fits) _ _ _ (c .before .before .before .before .word .ensures)
+    (c .before .before .before .held .ensures) (c .before .before .find-first .ensures .0) _ (c .enum-told2 .given .1)
+
+pub decode-spec : {M : Type 1} → statement M
+decode-spec =
+    tie.close
+    (tie.spec
+    word-requires
+    held-requires
+    find-first-requires
+    enum-known-place
+    ones-of-requires
+    read-requires
+    decoded-requires
+    enum-told
+    enum-told-2
+    returns
+    returns-2
+    returns-3)

@@ -1,0 +1,32 @@
+// Finding the diagram of the instruction at the start of some bytes.
+ghost use mathlib.Core.Path.{_≡_};
+ghost use mathlib.Core.Bool.{false};
+ghost use Prim.Native.Nat.{_<_};
+ghost use Rattle.isa.specs.Find.{forms, findOf};
+ghost use Rattle.decode.specs.First.{firstOf, Within};
+
+use crate::table::FORMS;
+use crate::table::agree;
+use crate::table::bytes_of;
+use crate::table::place_of;
+use isa::answer::Find;
+
+// The first form that matches the word w, of which n bytes are lent and the others are zero.
+pub fn find_first(w: u64, n: usize) -> Find
+    requires { ⌜ n < 9 ⌝ }
+    ensures { λ r. ⌜ (r ≡ firstOf forms false w n) × Within r ⌝ }
+{
+    let mut more = false;
+    let mut i: usize = 0;
+    while i < FORMS {
+        if agree(i, w, n) {
+            let bytes = bytes_of(i);
+            if bytes <= n {
+                return Find::At(place_of(i), bytes);
+            }
+            more = true;
+        }
+        i += 1;
+    }
+    if more { Find::CutShort } else { Find::NoDiagram }
+}
