@@ -1,5 +1,5 @@
 -- A word of little-endian bytes, and a field of a word.
-use Prim.Native.Nat.{ℕ, zero, suc, _+_, _*_, _-_, _/_, _%_, _^_}
+use Prim.Native.Nat.{ℕ, _+_, _*_, _-_, _/_, _%_, _^_}
 use mathlib.Core.List.{List, [], _∷_}
 use lib.ListN.{take}
 
@@ -19,8 +19,3 @@ ones n = 2 ^ (8 * n) - 1
 -- the n bits of w from the bit at
 abbrev pub fieldOf : ℕ → ℕ → ℕ → ℕ
 fieldOf w at n = w / 2 ^ at % 2 ^ n
-
--- the first n little-endian bytes of a number
-abbrev pub bytesOf : ℕ → ℕ → List ℕ
-bytesOf zero w = []
-bytesOf (suc n) w = w % 256 ∷ bytesOf n (w / 256)

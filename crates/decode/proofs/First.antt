@@ -2,17 +2,17 @@
 use mathlib.Core.Path.{_≡_, refl, sym, ap, _∙_}
 use mathlib.Core.Bool.{Bool, true, false, cond, _&&_, _||_, or-assoc}
 use mathlib.Core.List.{List, [], _∷_}
-use mathlib.Core.Option.{Option, none, some}
-use Prim.Native.Nat.{ℕ, _+_, _*_, _^_, _≤_, _<_, min}
+use mathlib.Core.Option.{none, some}
+use Prim.Native.Nat.{ℕ, _*_, _^_, _≤_, _<_, min}
 use native.Mathlib.Nat.{mod-eq-of-lt}
 use native.Mathlib.Omega.{arith}
 use lib.Bits.{bitAnd, and-mask}
-use lib.Dec.{T, eqb, leb, ltb}
-use lib.ListN.{length, take}
+use lib.Dec.{T, leb, ltb}
+use lib.ListN.{length}
 use lib.Pow.{pow-mono}
 use lib.Seq.{take-all}
 use borrow.Author.Tests.{le-leb, lt-leb, le-ltb, lt-ltb, leb-true, leb-false}
-use Rattle.bits.specs.Word.{le, wordOf, ones}
+use Rattle.bits.specs.Word.{wordOf, ones}
 use Rattle.bits.proofs.Laws.{Bytes}
 use Rattle.bits.proofs.Table.{all, left, right}
 use Rattle.isa.specs.Find.{Form, forms, matches, goesOn, beats, bestOf, anyGoesOn, found, findOf}

@@ -1,7 +1,7 @@
 -- The first form of a list that matches a word of which n bytes are lent, the others being zero: how the loop finds an instruction.
 -- That it is what the finding rule answers is the law `first-is-found`.
-use Prim.Native.Nat.{ℕ, _<_, _≤_}
-use mathlib.Core.Bool.{Bool, true, false, cond, _&&_, _||_}
+use Prim.Native.Nat.{ℕ, _<_}
+use mathlib.Core.Bool.{Bool, cond, _&&_, _||_}
 use mathlib.Core.List.{List, [], _∷_}
 use lib.Bits.{bitAnd}
 use lib.Dec.{eqb, leb}

@@ -3,7 +3,7 @@ use Prim.Native.Nat.{ℕ}
 use mathlib.Core.Bool.{cond}
 use lib.Bits.{bitAnd}
 use lib.Dec.{eqb}
-use Rattle.isa.specs.Diagram.{Diagram, Fields, fieldIn, unknownMask}
+use Rattle.isa.specs.Diagram.{Fields, fieldIn, unknownMask}
 use Rattle.isa.specs.Decode.{rowAt}
 use Rattle.isa.specs.declared.instruction.Bitfield.{Bitfield}
 use Rattle.isa.specs.declared.instruction.Shift.{Shift}

@@ -2,7 +2,7 @@
 ghost use mathlib.Core.Path.{_≡_};
 ghost use mathlib.Core.Bool.{false};
 ghost use Prim.Native.Nat.{_<_};
-ghost use Rattle.isa.specs.Find.{forms, findOf};
+ghost use Rattle.isa.specs.Find.{forms};
 ghost use Rattle.decode.specs.First.{firstOf, Within};
 
 use crate::table::FORMS;

@@ -1,7 +1,6 @@
 // Decoding one instruction from the start of some bytes. Any slice may be lent; the first eight bytes are looked at, at most.
 ghost use mathlib.Core.Path.{_≡_};
 ghost use Prim.Native.Nat.{min};
-ghost use lib.ListN.{length};
 ghost use Rattle.isa.specs.Find.{findOf};
 ghost use Rattle.isa.specs.Decode.{decodedOf, decodeOf};
 

@@ -4,7 +4,7 @@ ghost use mathlib.Core.Path.{_≡_};
 ghost use Prim.Native.Nat.{_<_};
 ghost use lib.ListN.{getD};
 ghost use Rattle.bits.specs.Word.{ones};
-ghost use Rattle.isa.specs.Find.{Form, forms};
+ghost use Rattle.isa.specs.Find.{forms};
 ghost use Rattle.decode.specs.First.{agrees, noForm};
 
 pub const FORMS: usize = 24;

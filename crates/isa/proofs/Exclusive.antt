@@ -1,6 +1,6 @@
 -- No two diagrams match the same bytes.
 use mathlib.Core.Path.{_≡_, refl, sym, ap, _∙_}
-use mathlib.Core.Bool.{Bool, true, false, not, _&&_}
+use mathlib.Core.Bool.{Bool, true, not, _&&_}
 use mathlib.Core.List.{List, [], _∷_}
 use Prim.Native.Nat.{ℕ, zero, suc, _<_}
 use native.Mathlib.Nat.{le-of-suc-le-suc, not-suc-le-zero}
@@ -10,7 +10,7 @@ use lib.ListN.{length, getD}
 use borrow.Author.Tests.{eq-eqb}
 use Rattle.bits.specs.Word.{wordOf}
 use Rattle.bits.proofs.Laws.{Bytes}
-use Rattle.bits.proofs.Parts.{and-swap}
+use Rattle.bits.proofs.Masks.{and-swap}
 use Rattle.bits.proofs.Table.{all, all-at, left, right}
 use Rattle.isa.specs.Rows.{rows}
 use Rattle.isa.specs.Find.{Form, forms, matches}

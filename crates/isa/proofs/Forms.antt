@@ -1,16 +1,16 @@
 -- What a form that matches says of the word of the first eight bytes.
 use mathlib.Core.Path.{_≡_, refl, sym, ap, _∙_}
 use mathlib.Core.Bool.{Bool, true, false, _&&_}
-use mathlib.Core.List.{List, [], _∷_}
-use Prim.Native.Nat.{ℕ, _*_, _%_, _^_, _≤_, _<_}
+use mathlib.Core.List.{List}
+use Prim.Native.Nat.{ℕ, _*_, _^_, _≤_, _<_}
 use native.Mathlib.Omega.{arith}
 use lib.Bits.{bitAnd}
-use lib.Dec.{T, eqb, leb, ltb, leb→le, ltb→lt}
+use lib.Dec.{T, leb, ltb, leb→le, ltb→lt}
 use lib.ListN.{length, take}
 use borrow.Author.Tests.{eqb-true, leb-true}
 use Rattle.bits.specs.Word.{le, wordOf}
 use Rattle.bits.proofs.Laws.{Bytes, first-bytes}
-use Rattle.bits.proofs.Parts.{and-within}
+use Rattle.bits.proofs.Masks.{and-within}
 use Rattle.bits.proofs.Table.{all, left, right}
 use Rattle.isa.specs.Rows.{rows}
 use Rattle.isa.specs.Find.{Form, forms, matches}

@@ -1,10 +1,9 @@
 -- What is found is lent whole, and has four to eight bytes.
-use mathlib.Core.Path.{_≡_, refl, sym, ap, _∙_, subst}
+use mathlib.Core.Path.{_≡_, refl, subst}
 use mathlib.Core.Bool.{Bool, true, false, cond, _&&_}
 use mathlib.Core.List.{List, [], _∷_}
 use mathlib.Core.Option.{Option, none, some}
 use Prim.Native.Nat.{ℕ, _≤_, _<_}
-use native.Mathlib.Omega.{arith}
 use lib.Dec.{T}
 use lib.ListN.{length, take}
 use borrow.Author.Tests.{leb-true}
@@ -12,7 +11,6 @@ use Rattle.bits.specs.Word.{le}
 use Rattle.bits.proofs.Table.{all, left, right}
 use Rattle.isa.specs.Find.{Form, forms, matches, beats, bestOf, anyGoesOn, found, findOf}
 use Rattle.isa.specs.Decode.{readAt, decodedOf, readFound, decodeOf}
-use Rattle.isa.specs.declared.answer.Refusal.{Refusal}
 use Rattle.isa.specs.declared.answer.Find.{Find}
 use Rattle.isa.specs.declared.answer.Reading.{Reading}
 use Rattle.isa.specs.declared.answer.Decoded.{Decoded}

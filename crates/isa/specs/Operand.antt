@@ -1,7 +1,7 @@
 -- Operands: which register, uniform or immediate the joined number v and the flags t of an operand name, with its hint.
 -- Follows the operand descriptions of document 002 as docs/DECISIONS.md has them, entry 1.
 use Prim.Native.Nat.{ℕ, _+_, _*_, _/_, _%_}
-use mathlib.Core.Bool.{Bool, true, false, cond, _||_, not}
+use mathlib.Core.Bool.{Bool, true, false, cond, not}
 use lib.Dec.{eqb}
 use Rattle.isa.specs.Word.{Bits}
 use Rattle.isa.specs.declared.operand.Destination.{Destination}

@@ -1,7 +1,6 @@
 -- The place of an instruction's diagram in the list of rows, and its heading word, as the document's headings have it.
 use Prim.Native.Nat.{ℕ}
 use Prim.Native.String.{String}
-use Rattle.isa.specs.Diagram.{Diagram}
 use Rattle.isa.specs.Decode.{rowAt}
 use Rattle.isa.specs.declared.instruction.Instruction.{Instruction}
 

@@ -1,7 +1,7 @@
 -- The built diagrams, one list in the order of document 002. A fixed bit, a field and a "?" stand at the bit numbers that the
 -- document prints; "Dt" of the movs is the field that it prints below bits 8 and 7, and bit 8, which it shares, is fixed too.
 use mathlib.Core.List.{List, [], _∷_}
-use Rattle.isa.specs.Diagram.{Diagram, diagram, Fixed, fixed, Field, field, Unknown, unknown}
+use Rattle.isa.specs.Diagram.{Diagram, diagram, fixed, field, unknown}
 use Rattle.isa.specs.Read.{mov16, mov32, getSr, iadd, imadd, bitfield, shift, bitop, scan, jump, popExec, compare}
 use Rattle.isa.specs.declared.instruction.Instruction.{Instruction}
 

@@ -1,6 +1,6 @@
 -- Quoted text as the list of its characters' numbers, which are the bytes of ASCII text.
 use Prim.Native.Nat.{ℕ}
-use Prim.Native.Char.{Char, code}
+use Prim.Native.Char.{code}
 use Prim.Native.String.{String}
 use mathlib.Core.List.{List, [], _∷_}
 

@@ -1,14 +1,13 @@
 -- The invariant: what is first from form i on, with what was seen so far, is first of all.
 use mathlib.Core.Path.{_≡_, refl, sym, ap, ap₂, _∙_}
-use mathlib.Core.Bool.{Bool, true, false, cond}
+use mathlib.Core.Bool.{Bool, false, cond}
 use mathlib.Core.Logic.{⊎-elim}
-use Prim.Native.Nat.{ℕ, _+_, _-_, _≤_, _<_}
+use Prim.Native.Nat.{ℕ, _-_, _≤_, _<_}
 use native.Mathlib.Omega.{arith}
-use borrow.Author.Needs.{needs}
-use lib.ListN.{drop, getD, length}
-use Rattle.isa.specs.Find.{Form, forms}
+use lib.ListN.{drop, length}
+use Rattle.isa.specs.Find.{forms}
 use Rattle.isa.specs.declared.answer.Find.{Find}
-use Rattle.decode.specs.First.{firstOf, noForm}
+use Rattle.decode.specs.First.{firstOf}
 use Rattle.decode.proofs.Forms.{length-forms}
 use Rattle.decode.proofs.Steps.{hit, wait, pass, ends}
 use Rattle.decode.proofs.finding.find_first.Statement.{statement}
