@@ -4,7 +4,6 @@ use mathlib.Core.List.{List, []}
 use lib.ListN.{getD, take}
 use Rattle.bits.specs.Word.{le}
 use Rattle.isa.specs.Diagram.{Diagram, diagram, readBy}
-use Rattle.isa.specs.Read.{popExec}
 use Rattle.isa.specs.Rows.{rows}
 use Rattle.isa.specs.Find.{findOf}
 use Rattle.isa.specs.declared.answer.Refusal.{Refusal}
@@ -14,7 +13,7 @@ use Rattle.isa.specs.declared.answer.Decoded.{Decoded}
 
 -- what stands past the end of the list, and is never found
 abbrev pub noDiagram : Diagram
-noDiagram = diagram "" 0 [] [] [] popExec
+noDiagram = diagram "" 0 [] [] [] (λ f kept. Reading.NoMeaning)
 
 abbrev pub rowAt : ℕ → Diagram
 rowAt place = getD rows place noDiagram

@@ -25,43 +25,47 @@ use Rattle.isa.specs.declared.answer.Reading.{Reading}
 
 -- ---- going on with what was read
 
-abbrev pub withDst : ReadDst → (Dst → Reading) → Reading
+unfoldable pub withDst : ReadDst → (Dst → Reading) → Reading
 withDst (ReadDst.Is d) k = k d
 withDst ReadDst.NoMeaning k = Reading.NoMeaning
 
-abbrev pub withUnary : ReadUnary → (Unary → Reading) → Reading
+unfoldable pub withUnary : ReadUnary → (Unary → Reading) → Reading
 withUnary (ReadUnary.Is o) k = k o
 withUnary ReadUnary.NoMeaning k = Reading.NoMeaning
 
-abbrev pub withBinary : ReadBinary → (Binary → Reading) → Reading
+unfoldable pub withBinary : ReadBinary → (Binary → Reading) → Reading
 withBinary (ReadBinary.Is o) k = k o
 withBinary ReadBinary.NoMeaning k = Reading.NoMeaning
 
-abbrev pub withTernary : ReadTernary → (Ternary → Reading) → Reading
+unfoldable pub withTernary : ReadTernary → (Ternary → Reading) → Reading
 withTernary (ReadTernary.Is o) k = k o
 withTernary ReadTernary.NoMeaning k = Reading.NoMeaning
 
-abbrev pub withCompared : ReadCompared → (Compared → Reading) → Reading
+unfoldable pub withCompared : ReadCompared → (Compared → Reading) → Reading
 withCompared (ReadCompared.Is o) k = k o
 withCompared ReadCompared.NoMeaning k = Reading.NoMeaning
 
+-- ICondition(cc, ccn): a condition with no meaning leaves none to the instruction
+unfoldable pub withCondition : ℕ → Reading → Reading
+withCondition cc r = cond (meansCondition cc) r Reading.NoMeaning
+
 -- several operands together: each has to have a meaning
-abbrev pub unary : ReadDst → ReadSrc → ReadUnary
+unfoldable pub unary : ReadDst → ReadSrc → ReadUnary
 unary (ReadDst.Is d) (ReadSrc.Is a) = ReadUnary.Is (record { d = d; a = a })
 unary (ReadDst.Is d) ReadSrc.NoMeaning = ReadUnary.NoMeaning
 unary ReadDst.NoMeaning a = ReadUnary.NoMeaning
 
-abbrev pub binary : ReadUnary → ReadSrc → ReadBinary
+unfoldable pub binary : ReadUnary → ReadSrc → ReadBinary
 binary (ReadUnary.Is o) (ReadSrc.Is b) = ReadBinary.Is (record { d = o .d; a = o .a; b = b })
 binary (ReadUnary.Is o) ReadSrc.NoMeaning = ReadBinary.NoMeaning
 binary ReadUnary.NoMeaning b = ReadBinary.NoMeaning
 
-abbrev pub ternary : ReadBinary → ReadSrc → ReadTernary
+unfoldable pub ternary : ReadBinary → ReadSrc → ReadTernary
 ternary (ReadBinary.Is o) (ReadSrc.Is c) = ReadTernary.Is (record { d = o .d; a = o .a; b = o .b; c = c })
 ternary (ReadBinary.Is o) ReadSrc.NoMeaning = ReadTernary.NoMeaning
 ternary ReadBinary.NoMeaning c = ReadTernary.NoMeaning
 
-abbrev pub compared : ReadSrc → ReadSrc → ReadCompared
+unfoldable pub compared : ReadSrc → ReadSrc → ReadCompared
 compared (ReadSrc.Is a) (ReadSrc.Is b) = ReadCompared.Is (record { a = a; b = b })
 compared (ReadSrc.Is a) ReadSrc.NoMeaning = ReadCompared.NoMeaning
 compared ReadSrc.NoMeaning b = ReadCompared.NoMeaning
@@ -160,7 +164,7 @@ abbrev pub compare : (Compare → Instruction) → Fields → ℕ → Reading
 compare make f kept =
     let a = ALUSrc (f "Ax" ⦂ f "A") (f "At") in
     let b = ALUSrc (f "Bx" ⦂ f "B") (f "Bt") in
-    cond (meansCondition (f "cc" .value))
+    withCondition (f "cc" .value)
     (withCompared (compared a b) λ o.
     Reading.Is
     (make
@@ -172,4 +176,3 @@ compare make f kept =
       operands = o;
       kept = kept
     })))
-    Reading.NoMeaning

@@ -1,3 +1,4 @@
+use Rattle.isa.specs.Read.{binary}
 use borrow.Author.Needs.{needs}
 use Rattle.decode.proofs.operand.read_binary.Statement.{statement}
 use Rattle.decode.proofs.operand.read_binary.Tie as tie
@@ -12,6 +13,7 @@ enum-told : tie.Need-enum-told
 enum-told c = search needs
 
 returns : tie.Need-returns
+unfolding binary
 returns c = rw (← c .before .before .read-unary .ensures, c .enum-told .given .1)
 
 sub-source : tie.Need-sub-source
@@ -27,9 +29,11 @@ enum-told-2 : tie.Need-enum-told-2
 enum-told-2 c = search needs
 
 returns-2 : tie.Need-returns-2
+unfolding binary
 returns-2 c = rw (← c .before .before .before .before .before .before .read-unary .ensures, c .before .before .before .before .o .given .1, ← c .before .before .source .ensures, c .enum-told2 .given .1)
 
 returns-3 : tie.Need-returns-3
+unfolding binary
 returns-3 c = rw (← c .before .before .before .before .before .before .before .before .before .read-unary .ensures, c .before .before .before .before .before .before .before .o .given .1, ← c .before .before .before .before .before .source .ensures, c .before .before .before .b .given .1)
 
 pub read-binary-spec : {M : Type 1} → statement M

@@ -1,3 +1,4 @@
+use Rattle.isa.specs.Read.{compared}
 use borrow.Author.Needs.{needs}
 use Rattle.decode.proofs.operand.read_compared.Statement.{statement}
 use Rattle.decode.proofs.operand.read_compared.Tie as tie
@@ -12,6 +13,7 @@ enum-told : tie.Need-enum-told
 enum-told c = search needs
 
 returns : tie.Need-returns
+unfolding compared
 returns c = rw (← c .before .before .source .ensures, c .enum-told .given .1)
 
 source-requires-2 : tie.Need-source-requires-2
@@ -24,9 +26,11 @@ enum-told-2 : tie.Need-enum-told-2
 enum-told-2 c = search needs
 
 returns-2 : tie.Need-returns-2
+unfolding compared
 returns-2 c = rw (← c .before .before .before .before .before .before .source .ensures, c .before .before .before .before .a .given .1, ← c .before .before .source2 .ensures, c .enum-told2 .given .1)
 
 returns-3 : tie.Need-returns-3
+unfolding compared
 returns-3 c = rw (← c .before .before .before .before .before .before .before .source .ensures, c .before .before .before .before .before .a .given .1, ← c .before .before .before .source2 .ensures, c .before .b .given .1)
 
 pub read-compared-spec : {M : Type 1} → statement M

@@ -1,3 +1,4 @@
+use Rattle.isa.specs.Read.{ternary}
 use borrow.Author.Needs.{needs}
 use Rattle.decode.proofs.operand.read_ternary.Statement.{statement}
 use Rattle.decode.proofs.operand.read_ternary.Tie as tie
@@ -12,6 +13,7 @@ enum-told : tie.Need-enum-told
 enum-told c = search needs
 
 returns : tie.Need-returns
+unfolding ternary
 returns c = rw (← c .before .before .read-binary .ensures, c .enum-told .given .1)
 
 source-requires : tie.Need-source-requires
@@ -24,9 +26,11 @@ enum-told-2 : tie.Need-enum-told-2
 enum-told-2 c = search needs
 
 returns-2 : tie.Need-returns-2
+unfolding ternary
 returns-2 c = rw (← c .before .before .before .before .before .before .read-binary .ensures, c .before .before .before .before .o .given .1, ← c .before .before .source .ensures, c .enum-told2 .given .1)
 
 returns-3 : tie.Need-returns-3
+unfolding ternary
 returns-3 c = rw (← c .before .before .before .before .before .before .before .before .before .before .read-binary .ensures, c .before .before .before .before .before .before .before .before .o .given .1, ← c .before .before .before .before .before .before .source .ensures, c .before .before .before .before .c .given .1)
 
 pub read-ternary-spec : {M : Type 1} → statement M

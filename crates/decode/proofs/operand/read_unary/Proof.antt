@@ -1,3 +1,4 @@
+use Rattle.isa.specs.Read.{unary}
 use borrow.Author.Needs.{needs}
 use Rattle.decode.proofs.operand.read_unary.Statement.{statement}
 use Rattle.decode.proofs.operand.read_unary.Tie as tie
@@ -12,6 +13,7 @@ enum-told : tie.Need-enum-told
 enum-told c = search needs
 
 returns : tie.Need-returns
+unfolding unary
 returns c = rw (← c .before .before .destination .ensures, c .enum-told .given .1)
 
 sub-source : tie.Need-sub-source
@@ -27,9 +29,11 @@ enum-told-2 : tie.Need-enum-told-2
 enum-told-2 c = search needs
 
 returns-2 : tie.Need-returns-2
+unfolding unary
 returns-2 c = rw (← c .before .before .before .before .before .before .destination .ensures, c .before .before .before .before .d .given .1, ← c .before .before .source .ensures, c .enum-told2 .given .1)
 
 returns-3 : tie.Need-returns-3
+unfolding unary
 returns-3 c = rw (← c .before .before .before .before .before .before .before .destination .ensures, c .before .before .before .before .before .d .given .1, ← c .before .before .before .source .ensures, c .before .a .given .1)
 
 pub read-unary-spec : {M : Type 1} → statement M

@@ -1,3 +1,4 @@
+use Rattle.isa.specs.Read.{withTernary}
 use Rattle.isa.specs.Rows.{rows}
 use borrow.Author.Needs.{needs}
 use Rattle.decode.proofs.read.read_bitfield.Statement.{statement}
@@ -13,7 +14,7 @@ enum-told : tie.Need-enum-told
 enum-told c = search needs
 
 returns : tie.Need-returns
-unfolding rows
+unfolding rows withTernary
 returns c = rw (← c .before .before .read-ternary .ensures, c .enum-told .given .1)
 
 mul-t8 : tie.Need-mul-t8
@@ -35,7 +36,7 @@ make-bitfield-requires : tie.Need-make-bitfield-requires
 make-bitfield-requires c κs = search needs
 
 returns-2 : tie.Need-returns-2
-unfolding rows
+unfolding rows withTernary
 returns-2 c = rw (c .make-bitfield .ensures, ← c .before .before .before .before .read-ternary .ensures, c .before .before .o .given .1)
 
 pub read-bitfield-spec : {M : Type 1} → statement M

@@ -1,3 +1,4 @@
+use Rattle.isa.specs.Read.{withBinary}
 use Rattle.isa.specs.Rows.{rows}
 use borrow.Author.Needs.{needs}
 use Rattle.decode.proofs.read.read_bitop.Statement.{statement}
@@ -13,7 +14,7 @@ enum-told : tie.Need-enum-told
 enum-told c = search needs
 
 returns : tie.Need-returns
-unfolding rows
+unfolding rows withBinary
 returns c = rw (← c .before .before .read-binary .ensures, c .enum-told .given .1)
 
 cast-t6 : tie.Need-cast-t6
@@ -29,7 +30,7 @@ cast-t15 : tie.Need-cast-t15
 cast-t15 c = search needs
 
 returns-2 : tie.Need-returns-2
-unfolding rows
+unfolding rows withBinary
 returns-2 c = rw (← c .before .before .before .read-binary .ensures, c .before .o .given .1)
 
 pub read-bitop-spec : {M : Type 1} → statement M

@@ -1,3 +1,4 @@
+use Rattle.isa.specs.Read.{withCompared, withCondition}
 use borrow.Author.Tests.{eq-eqb, ne-eqb}
 use Rattle.isa.specs.Rows.{rows}
 use borrow.Author.Needs.{needs}
@@ -5,7 +6,7 @@ use Rattle.decode.proofs.read.read_compare.Statement.{statement}
 use Rattle.decode.proofs.read.read_compare.Tie as tie
 
 returns : tie.Need-returns
-unfolding rows
+unfolding rows withCompared withCondition
 returns c = rw (eq-eqb _ _ (c .if1 .taken))
 
 read-compared-requires : tie.Need-read-compared-requires
@@ -18,7 +19,7 @@ enum-told : tie.Need-enum-told
 enum-told c = search needs
 
 returns-2 : tie.Need-returns-2
-unfolding rows
+unfolding rows withCompared withCondition
 returns-2 c = rw (ne-eqb _ _ (c .before .before .before .if1 .left), ← c .before .before .read-compared .ensures, c .enum-told .given .1)
 
 cache-hint-requires : tie.Need-cache-hint-requires
@@ -37,7 +38,7 @@ make-compare-requires : tie.Need-make-compare-requires
 make-compare-requires c κs = search needs
 
 returns-3 : tie.Need-returns-3
-unfolding rows
+unfolding rows withCompared withCondition
 returns-3 c = rw (c .make-compare .ensures, c .before .cache-hint .ensures, ne-eqb _ _ (c .before .before .before .before .before .before .if1 .left), ← c .before .before .before .before .before .read-compared .ensures, c .before .before .before .o .given .1)
 
 pub read-compare-spec : {M : Type 1} → statement M

@@ -1,3 +1,4 @@
+use Rattle.isa.specs.Read.{withDst}
 use Rattle.isa.specs.Rows.{rows}
 use borrow.Author.Needs.{needs}
 use Rattle.decode.proofs.read.read_get_sr.Statement.{statement}
@@ -13,7 +14,7 @@ enum-told : tie.Need-enum-told
 enum-told c = search needs
 
 returns : tie.Need-returns
-unfolding rows
+unfolding rows withDst
 returns c = rw (← c .before .before .destination .ensures, c .enum-told .given .1)
 
 mul-t6 : tie.Need-mul-t6
@@ -26,7 +27,7 @@ cast-t10 : tie.Need-cast-t10
 cast-t10 c = search needs
 
 returns-2 : tie.Need-returns-2
-unfolding rows
+unfolding rows withDst
 returns-2 c = rw (← c .before .before .before .destination .ensures, c .before .d .given .1)
 
 pub read-get-sr-spec : {M : Type 1} → statement M

@@ -1,3 +1,4 @@
+use Rattle.isa.specs.Read.{withTernary}
 use Rattle.isa.specs.Rows.{rows}
 use borrow.Author.Needs.{needs}
 use Rattle.decode.proofs.read.read_imadd.Statement.{statement}
@@ -13,7 +14,7 @@ enum-told : tie.Need-enum-told
 enum-told c = search needs
 
 returns : tie.Need-returns
-unfolding rows
+unfolding rows withTernary
 returns c = rw (← c .before .before .read-ternary .ensures, c .enum-told .given .1)
 
 cast-t6 : tie.Need-cast-t6
@@ -41,7 +42,7 @@ cast-t25 : tie.Need-cast-t25
 cast-t25 c = search needs
 
 returns-2 : tie.Need-returns-2
-unfolding rows
+unfolding rows withTernary
 returns-2 c = rw (← c .before .before .before .read-ternary .ensures, c .before .o .given .1)
 
 pub read-imadd-spec : {M : Type 1} → statement M

@@ -1,3 +1,4 @@
+use Rattle.isa.specs.Read.{withDst}
 use Rattle.isa.specs.Rows.{rows}
 use borrow.Author.Needs.{needs}
 use Rattle.decode.proofs.read.read_mov32.Statement.{statement}
@@ -13,7 +14,7 @@ enum-told : tie.Need-enum-told
 enum-told c = search needs
 
 returns : tie.Need-returns
-unfolding rows
+unfolding rows withDst
 returns c = rw (← c .before .before .destination .ensures, c .enum-told .given .1)
 
 cast-t6 : tie.Need-cast-t6
@@ -23,7 +24,7 @@ cast-t9 : tie.Need-cast-t9
 cast-t9 c = search needs
 
 returns-2 : tie.Need-returns-2
-unfolding rows
+unfolding rows withDst
 returns-2 c = rw (← c .before .before .before .destination .ensures, c .before .d .given .1)
 
 pub read-mov32-spec : {M : Type 1} → statement M

@@ -1,3 +1,4 @@
+use Rattle.isa.specs.Read.{withUnary}
 use Rattle.isa.specs.Rows.{rows}
 use borrow.Author.Needs.{needs}
 use Rattle.decode.proofs.read.read_scan.Statement.{statement}
@@ -13,14 +14,14 @@ enum-told : tie.Need-enum-told
 enum-told c = search needs
 
 returns : tie.Need-returns
-unfolding rows
+unfolding rows withUnary
 returns c = rw (← c .before .before .read-unary .ensures, c .enum-told .given .1)
 
 make-scan-requires : tie.Need-make-scan-requires
 make-scan-requires c κs = search needs
 
 returns-2 : tie.Need-returns-2
-unfolding rows
+unfolding rows withUnary
 returns-2 c = rw (c .make-scan .ensures, ← c .before .before .before .before .read-unary .ensures, c .before .before .o .given .1)
 
 pub read-scan-spec : {M : Type 1} → statement M

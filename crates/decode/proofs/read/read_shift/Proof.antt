@@ -1,3 +1,4 @@
+use Rattle.isa.specs.Read.{withBinary}
 use Rattle.isa.specs.Rows.{rows}
 use borrow.Author.Needs.{needs}
 use Rattle.decode.proofs.read.read_shift.Statement.{statement}
@@ -13,14 +14,14 @@ enum-told : tie.Need-enum-told
 enum-told c = search needs
 
 returns : tie.Need-returns
-unfolding rows
+unfolding rows withBinary
 returns c = rw (← c .before .before .read-binary .ensures, c .enum-told .given .1)
 
 make-shift-requires : tie.Need-make-shift-requires
 make-shift-requires c κs = search needs
 
 returns-2 : tie.Need-returns-2
-unfolding rows
+unfolding rows withBinary
 returns-2 c = rw (c .make-shift .ensures, ← c .before .before .before .before .read-binary .ensures, c .before .before .o .given .1)
 
 pub read-shift-spec : {M : Type 1} → statement M

@@ -1,0 +1,165 @@
+-- A decoded instruction is of the diagram that was found: its place in the list is the one that the finding rule answers.
+use mathlib.Core.Path.{_≡_, refl, sym, ap, ap₂, _∙_}
+use mathlib.Core.Bool.{Bool, true, false, cond}
+use mathlib.Core.List.{List, [], _∷_}
+use Prim.Native.Nat.{ℕ, zero, suc, _+_, _<_}
+use native.Mathlib.Nat.{le-of-suc-le-suc, not-suc-le-zero, add-zero, zero-add, add-suc, suc-add}
+use native.Mathlib.Omega.{arith}
+use lib.ListN.{length, getD, take}
+use Rattle.bits.specs.Word.{le}
+use Rattle.isa.specs.Diagram.{Diagram, Fields, readBy}
+use Rattle.isa.specs.Operand.{meansCondition}
+use Rattle.isa.specs.Read.{withDst, withUnary, withBinary, withTernary, withCompared, withCondition, bitfield, shift, scan, compare}
+use Rattle.isa.specs.Rows.{rows}
+use Rattle.isa.specs.Find.{findOf}
+use Rattle.isa.specs.Decode.{noDiagram, readAt, decodedOf, readFound, decodeOf}
+use Rattle.isa.specs.Place.{placeOf}
+use Rattle.isa.specs.declared.operand.Dst.{Dst}
+use Rattle.isa.specs.declared.operand.Unary.{Unary}
+use Rattle.isa.specs.declared.operand.Binary.{Binary}
+use Rattle.isa.specs.declared.operand.Ternary.{Ternary}
+use Rattle.isa.specs.declared.operand.Compared.{Compared}
+use Rattle.isa.specs.declared.operand.ReadDst.{ReadDst}
+use Rattle.isa.specs.declared.operand.ReadUnary.{ReadUnary}
+use Rattle.isa.specs.declared.operand.ReadBinary.{ReadBinary}
+use Rattle.isa.specs.declared.operand.ReadTernary.{ReadTernary}
+use Rattle.isa.specs.declared.operand.ReadCompared.{ReadCompared}
+use Rattle.isa.specs.declared.instruction.Bitfield.{Bitfield}
+use Rattle.isa.specs.declared.instruction.Shift.{Shift}
+use Rattle.isa.specs.declared.instruction.Scan.{Scan}
+use Rattle.isa.specs.declared.instruction.Compare.{Compare}
+use Rattle.isa.specs.declared.instruction.Instruction.{Instruction}
+use Rattle.isa.specs.declared.answer.Find.{Find}
+use Rattle.isa.specs.declared.answer.Reading.{Reading}
+use Rattle.isa.specs.declared.answer.Decoded.{Decoded}
+use Rattle.isa.proofs.Found.{Lent, found-lent}
+
+-- what was read, if anything, has the place p
+record At (p : ℕ) (r : Reading) : Type 0 where
+  place : (i : Instruction) → r ≡ Reading.Is i → placeOf i ≡ p
+
+none-at : (p : ℕ) → At p Reading.NoMeaning
+none-at p = record { place = λ i e. let z : _≡_ {A = ℕ} 0 1 = cc in absurd (omega arith) }
+
+is-at : (p : ℕ) (j : Instruction) → placeOf j ≡ p → At p (Reading.Is j)
+is-at p j h = record { place = λ i e. let z : j ≡ i = cc in ap placeOf (sym z) ∙ h }
+
+-- whatever the operands are
+module _ (p : ℕ) where
+  on-dst : (r : ReadDst) (k : Dst → Reading) → ((d : Dst) → At p (k d)) → At p (withDst r k)
+  unfolding withDst
+  on-dst (ReadDst.Is d) k h = h d
+  on-dst ReadDst.NoMeaning k h = none-at p
+
+  on-unary : (r : ReadUnary) (k : Unary → Reading) → ((o : Unary) → At p (k o)) → At p (withUnary r k)
+  unfolding withUnary
+  on-unary (ReadUnary.Is o) k h = h o
+  on-unary ReadUnary.NoMeaning k h = none-at p
+
+  on-binary : (r : ReadBinary) (k : Binary → Reading) → ((o : Binary) → At p (k o)) → At p (withBinary r k)
+  unfolding withBinary
+  on-binary (ReadBinary.Is o) k h = h o
+  on-binary ReadBinary.NoMeaning k h = none-at p
+
+  on-ternary : (r : ReadTernary) (k : Ternary → Reading) → ((o : Ternary) → At p (k o)) → At p (withTernary r k)
+  unfolding withTernary
+  on-ternary (ReadTernary.Is o) k h = h o
+  on-ternary ReadTernary.NoMeaning k h = none-at p
+
+  on-compared : (r : ReadCompared) (k : Compared → Reading) → ((o : Compared) → At p (k o)) → At p (withCompared r k)
+  unfolding withCompared
+  on-compared (ReadCompared.Is o) k h = h o
+  on-compared ReadCompared.NoMeaning k h = none-at p
+
+  on-condition : (cc : ℕ) (r : Reading) → At p r → At p (withCondition cc r)
+  unfolding withCondition
+  on-condition cc r h = go (meansCondition cc)
+    where
+      go : (b : Bool) → At p (cond b r Reading.NoMeaning)
+      go true = h
+      go false = none-at p
+
+-- the layouts of several diagrams
+module _ (p : ℕ) (f : Fields) (k : ℕ) where
+  bitfield-at : (make : Bitfield → Instruction) → ((x : Bitfield) → placeOf (make x) ≡ p) → At p (bitfield make f k)
+  bitfield-at make h = on-ternary p _ _ (λ o. is-at p _ (h _))
+
+  shift-at : (make : Shift → Instruction) → ((x : Shift) → placeOf (make x) ≡ p) → At p (shift make f k)
+  shift-at make h = on-binary p _ _ (λ o. is-at p _ (h _))
+
+  scan-at : (make : Scan → Instruction) → ((x : Scan) → placeOf (make x) ≡ p) → At p (scan make f k)
+  scan-at make h = on-unary p _ _ (λ o. is-at p _ (h _))
+
+  compare-at : (make : Compare → Instruction) → ((x : Compare) → placeOf (make x) ≡ p) → At p (compare make f k)
+  compare-at make h = on-condition p _ _ (on-compared p _ _ (λ o. is-at p _ (h _)))
+
+-- the diagrams of a list, whose first has the place p, read instructions of their own places
+abbrev AllAt : ℕ → List Diagram → Type 0
+AllAt p [] = Unit {0}
+AllAt p (d ∷ ds) = ((f : Fields) (k : ℕ) → At p (d .read f k)) × AllAt (suc p) ds
+
+infixr 5 _&_
+
+_&_ : {A B : Type 0} → A → B → A × B
+a & b = (a, b)
+
+rows-at : AllAt 0 rows
+unfolding rows _&_
+rows-at =
+    (λ f k. on-dst 0 _ _ (λ d. is-at 0 _ refl))
+    & (λ f k. on-dst 1 _ _ (λ d. is-at 1 _ refl))
+    & (λ f k. on-dst 2 _ _ (λ d. is-at 2 _ refl))
+    & (λ f k. on-binary 3 _ _ (λ o. is-at 3 _ refl))
+    & (λ f k. on-ternary 4 _ _ (λ o. is-at 4 _ refl))
+    & (λ f k. bitfield-at 5 f k Instruction.Bfi (λ x. refl))
+    & (λ f k. bitfield-at 6 f k Instruction.Bfeil (λ x. refl))
+    & (λ f k. bitfield-at 7 f k Instruction.Extr (λ x. refl))
+    & (λ f k. bitfield-at 8 f k Instruction.Shlhi (λ x. refl))
+    & (λ f k. bitfield-at 9 f k Instruction.Shrhi (λ x. refl))
+    & (λ f k. shift-at 10 f k Instruction.Asr (λ x. refl))
+    & (λ f k. shift-at 11 f k Instruction.Asrh (λ x. refl))
+    & (λ f k. on-binary 12 _ _ (λ o. is-at 12 _ refl))
+    & (λ f k. scan-at 13 f k Instruction.Bitrev (λ x. refl))
+    & (λ f k. scan-at 14 f k Instruction.Popcount (λ x. refl))
+    & (λ f k. scan-at 15 f k Instruction.Ffs (λ x. refl))
+    & (λ f k. is-at 16 _ refl)
+    & (λ f k. is-at 17 _ refl)
+    & (λ f k. is-at 18 _ refl)
+    & (λ f k. compare-at 19 f k Instruction.IfIcmp (λ x. refl))
+    & (λ f k. compare-at 20 f k Instruction.WhileIcmp (λ x. refl))
+    & (λ f k. compare-at 21 f k Instruction.ElseIcmp (λ x. refl))
+    & tt
+
+row-at : (ds : List Diagram) (p : ℕ) → AllAt p ds → (j : ℕ) → j < length ds → (w : ℕ) → At (p + j) (readBy (getD ds j noDiagram) w)
+row-at [] p a j h w = absurd (not-suc-le-zero h)
+row-at (d ∷ ds) p a zero h w = rw (add-zero p) (a .0 _ _)
+row-at (d ∷ ds) p a (suc j) h w = rw (add-suc p j, ← suc-add p j) (row-at ds (suc p) (a .1) j (le-of-suc-le-suc h) w)
+
+length-rows : length rows ≡ 22
+unfolding rows
+length-rows = refl
+
+-- an instruction that was read by the diagram at a place has that place
+pub read-place : (p w : ℕ) → p < 22 → (i : Instruction) → readAt p w ≡ Reading.Is i → placeOf i ≡ p
+read-place p w h i e =
+    let r : At (0 + p) (readAt p w) = row-at rows 0 rows-at p (rw length-rows h) w in
+    (rw (zero-add p) at r) .place i e
+
+module _ (s : List ℕ) (i : Instruction) (n : ℕ) where
+  of-reading : (p m : ℕ) → p < 22 → (r : Reading) → readAt p (le (take m s)) ≡ r → decodedOf r m ≡ Decoded.Found i n
+      → Find.At p m ≡ Find.At (placeOf i) n
+  of-reading p m h (Reading.Is j) e d =
+      let ej : j ≡ i = cc in
+      let em : m ≡ n = cc in
+      ap₂ (λ (x y : ℕ). Find.At x y) (sym (read-place p (le (take m s)) h j e) ∙ ap placeOf ej) em
+  of-reading p m h Reading.NoMeaning e d = let z : _≡_ {A = ℕ} 0 1 = cc in absurd (omega arith)
+
+  of-find : (f : Find) → Lent s f → readFound f s ≡ Decoded.Found i n → f ≡ Find.At (placeOf i) n
+  of-find (Find.At p m) h d = of-reading p m (h .0) (readAt p (le (take m s))) refl d
+  of-find Find.CutShort h d = let z : _≡_ {A = ℕ} 0 1 = cc in absurd (omega arith)
+  of-find Find.NoDiagram h d = let z : _≡_ {A = ℕ} 0 1 = cc in absurd (omega arith)
+
+  -- what decodes to an instruction was found at the place of its diagram
+  pub found-place : decodeOf s ≡ Decoded.Found i n → findOf s ≡ Find.At (placeOf i) n
+  unfolding decodeOf
+  found-place d = of-find (findOf s) (found-lent s) d
