@@ -4,7 +4,6 @@ ghost use mathlib.Core.Bool.{false};
 ghost use Prim.Native.Nat.{_<_};
 ghost use Rattle.isa.specs.Find.{forms};
 ghost use Rattle.decode.specs.First.{firstOf, Within};
-
 use crate::table::FORMS;
 use crate::table::agree;
 use crate::table::bytes_of;
@@ -28,5 +27,9 @@ pub fn find_first(w: u64, n: usize) -> Find
         }
         i += 1;
     }
-    if more { Find::CutShort } else { Find::NoDiagram }
+    if more {
+        Find::CutShort
+    } else {
+        Find::NoDiagram
+    }
 }

@@ -3,7 +3,6 @@ ghost use mathlib.Core.Path.{_≡_};
 ghost use Prim.Native.Nat.{_<_, _≤_};
 ghost use Rattle.isa.specs.Operand.{cacheHint, sourceHint, destinationOf, uniformOf, sourceOf};
 ghost use Rattle.decode.specs.At.{dstAt, srcAt, unaryAt, binaryAt, ternaryAt, comparedAt};
-
 use isa::operand::Binary;
 use isa::operand::Compared;
 use isa::operand::Destination;
@@ -41,13 +40,22 @@ fn read_destination(wide: bool, v: u64, t: u64) -> ReadDst
 {
     let h = cache_hint(t % 2);
     if t / 2 == 0 {
-        return ReadDst::Is(Dst { destination: Destination::Half(v as u8), hint: h });
+        return ReadDst::Is(Dst {
+            destination: Destination::Half(v as u8),
+            hint: h,
+        });
     }
     if v % 2 == 0 {
-        return ReadDst::Is(Dst { destination: Destination::Register((v / 2) as u8), hint: h });
+        return ReadDst::Is(Dst {
+            destination: Destination::Register((v / 2) as u8),
+            hint: h,
+        });
     }
     if wide {
-        ReadDst::Is(Dst { destination: Destination::Pair((v / 2) as u8), hint: h })
+        ReadDst::Is(Dst {
+            destination: Destination::Pair((v / 2) as u8),
+            hint: h,
+        })
     } else {
         ReadDst::NoMeaning
     }
@@ -58,17 +66,26 @@ fn read_uniform(wide: bool, u: u64, t1: u64) -> ReadSrc
     ensures { λ r. ⌜ r ≡ uniformOf wide u t1 ⌝ }
 {
     if t1 == 0 {
-        return ReadSrc::Is(Src { source: Source::UniformHalf(u as u16), hint: Hint::None });
+        return ReadSrc::Is(Src {
+            source: Source::UniformHalf(u as u16),
+            hint: Hint::None,
+        });
     }
     let first = u / 2;
     if u % 2 == 0 {
-        return ReadSrc::Is(Src { source: Source::UniformRegister(first as u8), hint: Hint::None });
+        return ReadSrc::Is(Src {
+            source: Source::UniformRegister(first as u8),
+            hint: Hint::None,
+        });
     }
     if first == 255 {
         return ReadSrc::NoMeaning;
     }
     if wide {
-        ReadSrc::Is(Src { source: Source::UniformPair(first as u8), hint: Hint::None })
+        ReadSrc::Is(Src {
+            source: Source::UniformPair(first as u8),
+            hint: Hint::None,
+        })
     } else {
         ReadSrc::NoMeaning
     }
@@ -83,9 +100,15 @@ fn read_source(wide: bool, v: u64, t: u64) -> ReadSrc
     let h = source_hint(bits);
     if kind == 0 {
         if bits == 0 {
-            return ReadSrc::Is(Src { source: Source::Immediate(v as u8), hint: Hint::None });
+            return ReadSrc::Is(Src {
+                source: Source::Immediate(v as u8),
+                hint: Hint::None,
+            });
         }
-        return ReadSrc::Is(Src { source: Source::Half(v as u8), hint: h });
+        return ReadSrc::Is(Src {
+            source: Source::Half(v as u8),
+            hint: h,
+        });
     }
     if kind == 1 {
         return read_uniform(wide, v + 256 * (t % 2), t / 2 % 2);
@@ -97,10 +120,16 @@ fn read_source(wide: bool, v: u64, t: u64) -> ReadSrc
         return ReadSrc::NoMeaning;
     }
     if kind == 2 {
-        return ReadSrc::Is(Src { source: Source::Register((v / 2) as u8), hint: h });
+        return ReadSrc::Is(Src {
+            source: Source::Register((v / 2) as u8),
+            hint: h,
+        });
     }
     if wide {
-        ReadSrc::Is(Src { source: Source::Pair((v / 2) as u8), hint: h })
+        ReadSrc::Is(Src {
+            source: Source::Pair((v / 2) as u8),
+            hint: h,
+        })
     } else {
         ReadSrc::NoMeaning
     }
@@ -164,7 +193,12 @@ pub fn read_ternary(wide: bool, w: u64) -> ReadTernary
     let d = o.d;
     let a = o.a;
     let b = o.b;
-    ReadTernary::Is(Ternary { d: d, a: a, b: b, c: c })
+    ReadTernary::Is(Ternary {
+        d: d,
+        a: a,
+        b: b,
+        c: c,
+    })
 }
 
 pub fn read_compared(w: u64) -> ReadCompared

@@ -4,7 +4,6 @@ ghost use Prim.Native.Nat.{_<_};
 ghost use Rattle.isa.specs.Decode.{readAt};
 ghost use Rattle.isa.specs.Read.{bitfield, shift, scan, compare};
 ghost use Rattle.decode.specs.Make.{bitfieldAt, shiftAt, scanAt, compareAt, fieldsAt, keptAt};
-
 use crate::operand::cache_hint;
 use crate::operand::destination;
 use crate::operand::read_binary;
@@ -128,7 +127,11 @@ fn read_bitfield(place: usize, w: u64) -> Reading
 fn make_shift(place: usize, x: Shift) -> Instruction
     ensures { λ r. ⌜ r ≡ shiftAt place x ⌝ }
 {
-    if place == 10 { Instruction::Asr(x) } else { Instruction::Asrh(x) }
+    if place == 10 {
+        Instruction::Asr(x)
+    } else {
+        Instruction::Asrh(x)
+    }
 }
 
 fn read_shift(place: usize, w: u64) -> Reading

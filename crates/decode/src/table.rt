@@ -10,16 +10,59 @@ ghost use Rattle.decode.specs.First.{agrees, noForm};
 pub const FORMS: usize = 24;
 
 const MASKS: [u64; 24] = [
-    0x817f, 0x817f, 0x817f, 0x817f, 0x807f, 0x803f, 0x803f, 0xc00807f, 0xc00807f, 0xc00807f, 0xc00807f, 0xc00807f, 0xc00807f, 0xc00807f, 0x807f, 0xfffc00807f, 0xfffc00807f, 0xfffc00807f, 0xffff, 0xffff, 0xffffffffe67f, 0x30c00c00067f, 0x30c00c00067f, 0x30c00c00067f,
+    0x817f, 0x817f, // mov16: L = 0, L = 1
+    0x817f, 0x817f, // mov32: L = 0, L = 1
+    0x807f, // get_sr
+    0x803f, 0x803f, // iadd, imadd
+    0xc00807f, 0xc00807f, 0xc00807f, 0xc00807f, 0xc00807f, // bfi, bfeil, extr, shlhi, shrhi
+    0xc00807f, 0xc00807f, // asr, asrh
+    0x807f, // bitop
+    0xfffc00807f, 0xfffc00807f, 0xfffc00807f, // bitrev, popcount, ffs
+    0xffff, 0xffff, // jmp_exec_any, jmp_exec_none
+    0xffffffffe67f, // pop_exec
+    0x30c00c00067f, 0x30c00c00067f, 0x30c00c00067f, // if_icmp, while_icmp, else_icmp
 ];
+
 const VALUES: [u64; 24] = [
-    0x62, 0x8062, 0x162, 0x8162, 0x72, 0xe, 0x1e, 0x2e, 0x802e, 0x400002e, 0x800002e, 0x800802e, 0x400802e, 0xc00802e, 0x7e, 0x400003e, 0x800003e, 0xc00003e, 0xc000, 0xc020, 0x652, 0x52, 0x452, 0x252,
+    0x62, 0x8062, // mov16: L = 0, L = 1
+    0x162, 0x8162, // mov32: L = 0, L = 1
+    0x72, // get_sr
+    0xe, 0x1e, // iadd, imadd
+    0x2e, 0x802e, 0x400002e, 0x800002e, 0x800802e, // bfi, bfeil, extr, shlhi, shrhi
+    0x400802e, 0xc00802e, // asr, asrh
+    0x7e, // bitop
+    0x400003e, 0x800003e, 0xc00003e, // bitrev, popcount, ffs
+    0xc000, 0xc020, // jmp_exec_any, jmp_exec_none
+    0x652, // pop_exec
+    0x52, 0x452, 0x252, // if_icmp, while_icmp, else_icmp
 ];
+
 const BYTES: [usize; 24] = [
-    4, 6, 6, 8, 4, 8, 8, 8, 8, 8, 8, 8, 8, 8, 6, 6, 6, 6, 6, 6, 6, 6, 6, 6,
+    4, 6, // mov16: L = 0, L = 1
+    6, 8, // mov32: L = 0, L = 1
+    4, // get_sr
+    8, 8, // iadd, imadd
+    8, 8, 8, 8, 8, // bfi, bfeil, extr, shlhi, shrhi
+    8, 8, // asr, asrh
+    6, // bitop
+    6, 6, 6, // bitrev, popcount, ffs
+    6, 6, // jmp_exec_any, jmp_exec_none
+    6, // pop_exec
+    6, 6, 6, // if_icmp, while_icmp, else_icmp
 ];
+
 const PLACES: [usize; 24] = [
-    0, 0, 1, 1, 2, 3, 4, 5, 6, 7, 8, 9, 10, 11, 12, 13, 14, 15, 16, 17, 18, 19, 20, 21,
+    0, 0, // mov16: L = 0, L = 1
+    1, 1, // mov32: L = 0, L = 1
+    2, // get_sr
+    3, 4, // iadd, imadd
+    5, 6, 7, 8, 9, // bfi, bfeil, extr, shlhi, shrhi
+    10, 11, // asr, asrh
+    12, // bitop
+    13, 14, 15, // bitrev, popcount, ffs
+    16, 17, // jmp_exec_any, jmp_exec_none
+    18, // pop_exec
+    19, 20, 21, // if_icmp, while_icmp, else_icmp
 ];
 
 const ONES: [u64; 9] = [

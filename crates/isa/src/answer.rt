@@ -1,7 +1,6 @@
 // The answers of finding, reading and decoding, and the refusals with their numbers.
 ghost use mathlib.Core.Path.{_≡_};
 ghost use Rattle.isa.specs.Refusal.{numberOf};
-
 use crate::instruction::Instruction;
 
 // Why a call is refused. specs/Refusal.antt has the number of each.
