@@ -4,7 +4,7 @@ use Prim.Native.Nat.{ℕ, _+_, _*_, _-_}
 use mathlib.Core.Bool.{Bool, false}
 use Rattle.bits.specs.Word.{fieldOf}
 use Rattle.isa.specs.Operand.{destinationOf, sourceOf}
-use Rattle.isa.specs.Read.{unary, binary, ternary, compared}
+use Rattle.isa.specs.Together.{unary, binary, ternary, compared}
 use Rattle.isa.specs.declared.operand.ReadDst.{ReadDst}
 use Rattle.isa.specs.declared.operand.ReadSrc.{ReadSrc}
 use Rattle.isa.specs.declared.operand.ReadUnary.{ReadUnary}

@@ -3,7 +3,7 @@ use mathlib.Core.Path.{_≡_, refl}
 use mathlib.Core.List.{List, [], _∷_, map}
 use Prim.Native.Nat.{ℕ}
 use Rattle.isa.specs.Operand.{destinationOf, sourceOf, uniformOf}
-use Rattle.isa.specs.Read.{unary, binary, withDst, withBinary}
+use Rattle.isa.specs.Together.{unary, binary, withDst, withBinary}
 use Rattle.isa.specs.Rows.{rows}
 use Rattle.isa.specs.Find.{forms}
 use Rattle.isa.specs.Decode.{decodeOf}

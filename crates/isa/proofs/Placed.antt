@@ -9,7 +9,8 @@ use lib.ListN.{length, getD, take}
 use Rattle.bits.specs.Word.{le}
 use Rattle.isa.specs.Diagram.{Diagram, Fields, readBy}
 use Rattle.isa.specs.Operand.{meansCondition}
-use Rattle.isa.specs.Read.{withDst, withUnary, withBinary, withTernary, withCompared, withCondition, bitfield, shift, scan, compare}
+use Rattle.isa.specs.Together.{withDst, withUnary, withBinary, withTernary, withCompared, withCondition}
+use Rattle.isa.specs.Read.{bitfield, shift, scan, compare}
 use Rattle.isa.specs.Rows.{rows}
 use Rattle.isa.specs.Find.{findOf}
 use Rattle.isa.specs.Decode.{noDiagram, readAt, decodedOf, readFound, decodeOf}

@@ -8,7 +8,7 @@ use lib.Bits.{bitAnd, bitOr}
 use lib.Text.{eqt}
 use Rattle.bits.specs.Word.{fieldOf}
 use Rattle.isa.specs.Text.{ascii}
-use Rattle.isa.specs.Word.{Bits}
+use Rattle.isa.specs.Bits.{Bits}
 use Rattle.isa.specs.declared.answer.Reading.{Reading}
 
 -- the bits hi to lo, with the digits that are printed there, or with the field's name

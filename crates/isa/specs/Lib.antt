@@ -1,7 +1,8 @@
 pub mod Refusal
 pub mod Text
-pub mod Word
+pub mod Bits
 pub mod Operand
+pub mod Together
 pub mod Diagram
 pub mod Read
 pub mod Rows

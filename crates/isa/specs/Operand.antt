@@ -3,7 +3,7 @@
 use Prim.Native.Nat.{ℕ, _+_, _*_, _/_, _%_}
 use mathlib.Core.Bool.{Bool, true, false, cond, not}
 use lib.Dec.{eqb}
-use Rattle.isa.specs.Word.{Bits}
+use Rattle.isa.specs.Bits.{Bits}
 use Rattle.isa.specs.declared.operand.Destination.{Destination}
 use Rattle.isa.specs.declared.operand.Source.{Source}
 use Rattle.isa.specs.declared.operand.Hint.{Hint}

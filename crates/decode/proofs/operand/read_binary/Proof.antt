@@ -1,4 +1,4 @@
-use Rattle.isa.specs.Read.{binary}
+use Rattle.isa.specs.Together.{binary}
 use borrow.Author.Needs.{needs}
 use Rattle.decode.proofs.operand.read_binary.Statement.{statement}
 use Rattle.decode.proofs.operand.read_binary.Tie as tie

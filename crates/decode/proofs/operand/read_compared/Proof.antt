@@ -1,4 +1,4 @@
-use Rattle.isa.specs.Read.{compared}
+use Rattle.isa.specs.Together.{compared}
 use borrow.Author.Needs.{needs}
 use Rattle.decode.proofs.operand.read_compared.Statement.{statement}
 use Rattle.decode.proofs.operand.read_compared.Tie as tie

@@ -1,4 +1,4 @@
-use Rattle.isa.specs.Read.{ternary}
+use Rattle.isa.specs.Together.{ternary}
 use borrow.Author.Needs.{needs}
 use Rattle.decode.proofs.operand.read_ternary.Statement.{statement}
 use Rattle.decode.proofs.operand.read_ternary.Tie as tie

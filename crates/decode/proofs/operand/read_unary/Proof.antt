@@ -1,4 +1,4 @@
-use Rattle.isa.specs.Read.{unary}
+use Rattle.isa.specs.Together.{unary}
 use borrow.Author.Needs.{needs}
 use Rattle.decode.proofs.operand.read_unary.Statement.{statement}
 use Rattle.decode.proofs.operand.read_unary.Tie as tie

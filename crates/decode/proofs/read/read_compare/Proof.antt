@@ -1,4 +1,4 @@
-use Rattle.isa.specs.Read.{withCompared, withCondition}
+use Rattle.isa.specs.Together.{withCompared, withCondition}
 use borrow.Author.Tests.{eq-eqb, ne-eqb}
 use Rattle.isa.specs.Rows.{rows}
 use borrow.Author.Needs.{needs}

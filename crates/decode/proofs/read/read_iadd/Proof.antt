@@ -1,4 +1,4 @@
-use Rattle.isa.specs.Read.{withBinary}
+use Rattle.isa.specs.Together.{withBinary}
 use Rattle.isa.specs.Rows.{rows}
 use borrow.Author.Needs.{needs}
 use Rattle.decode.proofs.read.read_iadd.Statement.{statement}

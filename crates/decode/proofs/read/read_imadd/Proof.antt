@@ -1,4 +1,4 @@
-use Rattle.isa.specs.Read.{withTernary}
+use Rattle.isa.specs.Together.{withTernary}
 use Rattle.isa.specs.Rows.{rows}
 use borrow.Author.Needs.{needs}
 use Rattle.decode.proofs.read.read_imadd.Statement.{statement}

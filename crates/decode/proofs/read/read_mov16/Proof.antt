@@ -1,4 +1,4 @@
-use Rattle.isa.specs.Read.{withDst}
+use Rattle.isa.specs.Together.{withDst}
 use Rattle.isa.specs.Rows.{rows}
 use borrow.Author.Needs.{needs}
 use Rattle.decode.proofs.read.read_mov16.Statement.{statement}

@@ -1,4 +1,4 @@
-use Rattle.isa.specs.Read.{withUnary}
+use Rattle.isa.specs.Together.{withUnary}
 use Rattle.isa.specs.Rows.{rows}
 use borrow.Author.Needs.{needs}
 use Rattle.decode.proofs.read.read_scan.Statement.{statement}
