@@ -6,8 +6,11 @@ use lib.Dec.{ltb, leb}
 use lib.ListN.{length, drop}
 use Rattle.isa.specs.Text.{ascii}
 use Rattle.isa.specs.Refusal.{numberOf}
-use Rattle.isa.specs.Place.{headingOf}
+use Rattle.isa.specs.Decode.{rowAt}
+use Rattle.isa.specs.Diagram.{Diagram}
+use Rattle.isa.specs.Place.{placeOf}
 use Rattle.isa.specs.declared.answer.Refusal.{Refusal}
+use Rattle.isa.specs.declared.instruction.Instruction.{Instruction}
 use Rattle.listing.specs.Walk.{Walk, ended, refused, stepped, walkOf}
 use Rattle.listing.specs.declared.Listed.{Listed}
 
@@ -26,12 +29,25 @@ hexBytes (b ∷ bs) = hexByte b ++ hexBytes bs
 abbrev pub hexAddress : ℕ → List ℕ
 hexAddress at = hexByte (at / 256) ++ hexByte (at % 256)
 
--- one line for each instruction: address, bytes, heading word; then `end`, or `refused` with the number, at the place it stopped
+-- the end of an instruction's line: the heading word of the diagram at a place of the list
+abbrev pub tailAt : ℕ → List ℕ
+tailAt place = ascii " " ++ ascii (rowAt place .heading) ++ ascii "\n"
+
+-- the line of an instruction: its address, its bytes, its heading word
+unfoldable pub lineOf : ℕ → List ℕ → Instruction → List ℕ
+lineOf at bytes i = hexAddress at ++ ascii " " ++ hexBytes bytes ++ tailAt (placeOf i)
+
+-- the last line, at the place where the walk stopped: `end`, or `refused` with the number
+unfoldable pub endLine : ℕ → List ℕ
+endLine at = hexAddress at ++ ascii " end\n"
+
+unfoldable pub refusedLine : ℕ → Refusal → List ℕ
+refusedLine at r = hexAddress at ++ ascii " refused " ++ digit (numberOf r) ∷ ascii "\n"
+
 unfoldable pub textOf : Walk → List ℕ
-textOf (ended at) = hexAddress at ++ ascii " end\n"
-textOf (refused at r) = hexAddress at ++ ascii " refused " ++ digit (numberOf r) ∷ ascii "\n"
-textOf (stepped at bytes i w) =
-    hexAddress at ++ ascii " " ++ hexBytes bytes ++ ascii " " ++ ascii (headingOf i) ++ ascii "\n" ++ textOf w
+textOf (ended at) = endLine at
+textOf (refused at r) = refusedLine at r
+textOf (stepped at bytes i w) = lineOf at bytes i ++ textOf w
 
 unfoldable pub listingOf : List ℕ → List ℕ
 listingOf code = textOf (walkOf code)
@@ -39,7 +55,8 @@ listingOf code = textOf (walkOf code)
 -- ---- the call: a text with too little room is refused, and nothing is written
 
 abbrev pub listedOf : List ℕ → ℕ → Listed
-listedOf code room = cond (leb (length (listingOf code)) room) (Listed.Wrote (length (listingOf code))) (Listed.Refused Refusal.BadSize)
+listedOf code room =
+    cond (leb (length (listingOf code)) room) (Listed.Wrote (length (listingOf code))) (Listed.Refused Refusal.BadSize)
 
 -- the listing at the start of what stood there
 abbrev pub leftBy : List ℕ → List ℕ → List ℕ

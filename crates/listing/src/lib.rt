@@ -1,8 +1,35 @@
-// The listing of a kernel as text.
+// The listing of a kernel as text: a line for each instruction, and a last line that says where it stopped.
+ghost use mathlib.Core.Path.{_≡_};
+ghost use lib.ListN.{length};
+ghost use Rattle.listing.specs.Listing.{listedOf, leftBy};
+
+mod heading;
+mod hex;
+mod line;
+mod piece;
+mod walk;
+
 use isa::answer::Refusal;
+
+// The most bytes that are listed.
+pub const LIMIT: usize = 8192;
 
 // The number of bytes written, or the refusal.
 pub enum Listed {
     Wrote(usize),
     Refused(Refusal),
+}
+
+// Lists the code at the start of the text. Where the text is too short for it, nothing is written.
+pub fn list(code: &[u8], text: &mut [u8]) -> Listed
+    ensures { λ r. ⌜ (r ≡ listedOf (now (code .entry)) (length (now (text .entry))))
+        × (now (text .exit) ≡ leftBy (now (code .entry)) (now (text .entry))) ⌝ }
+{
+    let n = walk::measure(code);
+    if n <= text.len() {
+        walk::write(code, text);
+        Listed::Wrote(n)
+    } else {
+        Listed::Refused(Refusal::BadSize)
+    }
 }

@@ -1,0 +1,7 @@
+pub mod Pieces
+pub mod Headings
+pub mod Left
+pub mod Apart
+pub mod Seen
+pub mod Room
+pub mod Alike

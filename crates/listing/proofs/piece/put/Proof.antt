@@ -1,0 +1,79 @@
+-- What is left of the piece, put after what is written, makes the piece.
+-- Assumes nothing.
+use mathlib.Core.Path.{_≡_, refl, sym, ap, _∙_}
+use mathlib.Core.List.{List, [], _∷_}
+use Prim.Native.Nat.{ℕ, _+_, _-_, _≤_}
+use native.Mathlib.Nat.{add-zero}
+use native.Mathlib.Numerals.{add-one}
+use native.Mathlib.Omega.{arith}
+use lib.ListN.{length, getD, drop, set, length-set, drop-of-length-le}
+use lib.Seq.{sets, drop-cons}
+use Rattle.listing.proofs.Pieces.{after}
+use Rattle.listing.proofs.piece.put.Statement.{statement}
+use Rattle.listing.proofs.piece.put.Tie as tie
+
+abbrev Inv-loop : tie.InvT-loop
+Inv-loop text₀ n piece i₀ text i =
+    (i ≤ length piece) × (length text ≡ length text₀)
+    × (sets text (n + i) (drop i piece) ≡ sets text₀ n piece)
+
+abbrev μ-loop : tie.MeasureT-loop
+μ-loop text₀ n piece i₀ text i = length piece - i
+
+loop-holds : tie.Need-loop-holds Inv-loop μ-loop
+loop-holds c = (omega arith, refl, ap (λ (k : ℕ). sets (c .args .text .now) k (c .args .piece .now)) (add-zero (c .args .n)))
+
+shared-slice-read-text : tie.Need-shared-slice-read-text Inv-loop μ-loop
+shared-slice-read-text c = omega arith
+
+add-text : tie.Need-add-text Inv-loop μ-loop
+add-text c = omega arith
+
+slice-write-text : tie.Need-slice-write-text Inv-loop μ-loop
+slice-write-text c = omega arith
+
+add-i : tie.Need-add-i Inv-loop μ-loop
+add-i c = omega arith
+
+loop-less : tie.Need-loop-less Inv-loop μ-loop
+loop-less c = omega arith
+
+loop-again : tie.Need-loop-again Inv-loop μ-loop
+loop-again c =
+    let l = c .before .before .loop in
+    let a = c .before .before .before .args in
+    let s = a .piece .now in
+    let b = getD s (l .i) 0 in
+    let m = a .n + l .i in (
+      omega arith,
+      length-set (l .text) m b ∙ l .inv .1,
+      after (b ∷ []) (drop (l .i + 1) s) (drop (l .i) s) (l .text) (set (l .text) m b) m (a .n + (l .i + 1)) refl
+          (omega arith) (rw (add-one (l .i)) (drop-cons s (l .i) 0 (omega arith)))
+          ∙ l .inv .2,
+    )
+
+same-length : tie.Need-same-length Inv-loop μ-loop
+same-length c = omega arith
+
+returns : tie.Need-returns Inv-loop μ-loop
+returns c =
+    let l = c .before .loop in
+    let a = c .before .before .args in
+    let e : drop (l .i) (a .piece .now) ≡ [] = drop-of-length-le (a .piece .now) {i = l .i} (omega arith) in
+    ap (λ (s : List ℕ). sets (l .text) (a .n + l .i) s) (sym e) ∙ l .inv .2
+
+pub put-spec : {M : Type 1} → statement M
+put-spec =
+    tie.close
+    (tie.spec
+    Inv-loop
+    μ-loop
+    loop-holds
+    shared-slice-read-text
+    add-text
+    slice-write-text
+    add-i
+    loop-less
+    loop-again
+    same-length
+    returns)
