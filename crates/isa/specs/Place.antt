@@ -1,7 +1,5 @@
--- The place of an instruction's diagram in the list of rows, and its heading word, as the document's headings have it.
+-- The place of an instruction's diagram in the list of rows, counted from 0.
 use Prim.Native.Nat.{ℕ}
-use Prim.Native.String.{String}
-use Rattle.isa.specs.Decode.{rowAt}
 use Rattle.isa.specs.declared.instruction.Instruction.{Instruction}
 
 abbrev pub placeOf : Instruction → ℕ
@@ -27,6 +25,3 @@ placeOf (Instruction.PopExec h n kept) = 18
 placeOf (Instruction.IfIcmp x) = 19
 placeOf (Instruction.WhileIcmp x) = 20
 placeOf (Instruction.ElseIcmp x) = 21
-
-abbrev pub headingOf : Instruction → String
-headingOf i = rowAt (placeOf i) .heading

@@ -1,5 +1,4 @@
 -- Kernels that are listed alike: they agree up to the place where the listing stops, and altogether where it says `end`.
--- Assumes nothing.
 use mathlib.Core.Path.{_≡_, refl, sym, ap, _∙_}
 use mathlib.Core.List.{List, [], _∷_}
 use mathlib.Core.Option.{none}

@@ -1,6 +1,5 @@
 -- The table of heading words: the part for each place of the list of diagrams is the end of that instruction's line.
 -- Each is one equation that antt computes, over all places.
--- Assumes nothing.
 use mathlib.Core.Path.{_≡_, refl}
 use mathlib.Core.Bool.{true}
 use mathlib.Core.List.{List, [], _∷_, _++_}

@@ -1,5 +1,4 @@
 -- What is left of a listing from an address on: the line that stands there, and what is left from the next address.
--- Assumes nothing.
 use mathlib.Core.Path.{_≡_, refl, sym, ap, _∙_}
 use mathlib.Core.Bool.{Bool, true, false, cond}
 use mathlib.Core.List.{List, [], _∷_, _++_}

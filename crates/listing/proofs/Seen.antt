@@ -1,5 +1,4 @@
 -- What a walk has seen of the code: the bytes before the place where it stopped, and all of them if nothing was refused.
--- Assumes nothing.
 use mathlib.Core.Path.{_≡_, refl, sym, ap, _∙_}
 use mathlib.Core.Bool.{Bool, true, false, cond}
 use mathlib.Core.List.{List, [], _∷_, _++_}

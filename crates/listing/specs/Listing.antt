@@ -7,7 +7,6 @@ use lib.ListN.{length, drop}
 use Rattle.isa.specs.Text.{ascii}
 use Rattle.isa.specs.Refusal.{numberOf}
 use Rattle.isa.specs.Decode.{rowAt}
-use Rattle.isa.specs.Diagram.{Diagram}
 use Rattle.isa.specs.Place.{placeOf}
 use Rattle.isa.specs.declared.answer.Refusal.{Refusal}
 use Rattle.isa.specs.declared.instruction.Instruction.{Instruction}
@@ -44,6 +43,7 @@ endLine at = hexAddress at ++ ascii " end\n"
 unfoldable pub refusedLine : ℕ → Refusal → List ℕ
 refusedLine at r = hexAddress at ++ ascii " refused " ++ digit (numberOf r) ∷ ascii "\n"
 
+-- a line for each instruction, then the last line
 unfoldable pub textOf : Walk → List ℕ
 textOf (ended at) = endLine at
 textOf (refused at r) = refusedLine at r

@@ -1,5 +1,4 @@
 -- A text of 65,536 bytes has room for every listing, so the call is not refused.
--- Assumes nothing.
 use mathlib.Core.Path.{sym}
 use lib.Seq.{length-take-le}
 use Rattle.listing.proofs.Room.{whole, not-refused}

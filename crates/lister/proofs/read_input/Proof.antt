@@ -1,5 +1,4 @@
 -- The count never passes the end of the buffer, and each turn but the last reads at least one byte.
--- Assumes nothing.
 use mathlib.Core.Path.{_≡_, refl}
 use Prim.Native.Nat.{_-_, _≤_}
 use native.Mathlib.Omega.{arith}

@@ -1,5 +1,4 @@
 -- The listing is measured first: where it fits it is written at the start of the text, else the text is kept.
--- Assumes nothing.
 use mathlib.Core.Path.{ap, _∙_}
 use mathlib.Core.List.{_++_}
 use Prim.Native.Nat.{ℕ, _≤_}

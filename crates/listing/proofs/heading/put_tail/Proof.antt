@@ -1,5 +1,4 @@
 -- The part of the table from one start to the next is the end of the line.
--- Assumes nothing.
 use mathlib.Core.Path.{ap, _∙_}
 use mathlib.Core.List.{List}
 use Prim.Native.Nat.{ℕ}

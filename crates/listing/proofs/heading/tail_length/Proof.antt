@@ -1,5 +1,4 @@
 -- The distance of two starts is the length of the end of the line.
--- Assumes nothing.
 use Rattle.isa.specs.Rows.{rows}
 use Rattle.listing.proofs.Headings.{starts, starts-rise, size-right, size-small}
 use borrow.Author.Needs.{needs}

@@ -1,5 +1,4 @@
 -- Below ten and from ten on, the digit is that of the definition.
--- Assumes nothing.
 use borrow.Author.Tests.{lt-ltb, le-ltb}
 use borrow.Author.Needs.{needs}
 use Rattle.listing.proofs.hex.hex_digit.Statement.{statement}

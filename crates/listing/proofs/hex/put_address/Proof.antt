@@ -1,12 +1,11 @@
 -- The digits of the upper byte, those of the lower byte, and the space, put one after the other.
--- Assumes nothing.
 use mathlib.Core.Path.{refl, _∙_}
 use mathlib.Core.List.{_++_}
 use Prim.Native.Nat.{_+_, _/_, _%_}
 use native.Mathlib.Omega.{arith}
 use lib.ListN.{length-set}
 use Rattle.isa.specs.Text.{ascii}
-use Rattle.listing.specs.Listing.{hexByte, hexAddress}
+use Rattle.listing.specs.Listing.{hexByte}
 use Rattle.listing.proofs.Pieces.{after}
 use borrow.Author.Needs.{needs}
 use Rattle.listing.proofs.hex.put_address.Statement.{statement}

@@ -1,5 +1,4 @@
 -- Two stores put the two digits of a byte.
--- Assumes nothing.
 use native.Mathlib.Numerals.{add-one}
 use native.Mathlib.Omega.{arith}
 use lib.ListN.{length-set}

@@ -1,5 +1,4 @@
 -- The digits of the bytes that are left, put after those that are written, make the digits of all.
--- Assumes nothing.
 use mathlib.Core.Path.{_≡_, refl, sym, ap, _∙_}
 use mathlib.Core.List.{List, []}
 use Prim.Native.Nat.{ℕ, _+_, _*_, _-_, _≤_}

@@ -1,5 +1,4 @@
 -- Five characters of address, two for each byte, and the end of the line.
--- Assumes nothing.
 use mathlib.Core.Path.{_≡_, ap, _∙_}
 use Prim.Native.Nat.{ℕ, _+_, _*_}
 use native.Mathlib.Omega.{arith}

@@ -1,5 +1,4 @@
 -- Address and `end`, put one after the other, are the last line.
--- Assumes nothing.
 use mathlib.Core.Path.{refl, _∙_}
 use mathlib.Core.List.{_++_}
 use Prim.Native.Nat.{_+_}

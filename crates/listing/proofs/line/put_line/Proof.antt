@@ -1,5 +1,4 @@
 -- Address, bytes and the end of the line, put one after the other, are the line.
--- Assumes nothing.
 use mathlib.Core.Path.{_≡_, refl, ap, _∙_}
 use mathlib.Core.List.{_++_}
 use Prim.Native.Nat.{ℕ, _+_, _*_}

@@ -1,5 +1,4 @@
 -- Address and `refused` with the digit of the number, put one after the other, are the last line.
--- Assumes nothing.
 use mathlib.Core.Path.{_≡_, refl, ap, _∙_}
 use mathlib.Core.List.{_∷_, _++_}
 use Prim.Native.Nat.{ℕ, _+_}

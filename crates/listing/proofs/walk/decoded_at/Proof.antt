@@ -1,5 +1,4 @@
 -- Code that is too long is refused; else what stands at the address is what the rest of the code decodes to.
--- Assumes nothing.
 use mathlib.Core.Path.{ap, _∙_}
 use Prim.Native.Nat.{_-_, _≤_}
 use native.Mathlib.Omega.{arith}

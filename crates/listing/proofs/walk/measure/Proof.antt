@@ -1,5 +1,4 @@
 -- The loop adds up the lengths of the lines: the length so far and that of what is left make the length of the listing.
--- Assumes nothing.
 use mathlib.Core.Path.{_≡_, ap}
 use Prim.Native.Nat.{_+_, _*_, _-_, _≤_}
 use native.Mathlib.Omega.{arith}

@@ -1,5 +1,4 @@
 -- The loop writes line by line: what is left, put after what is written, makes the whole listing.
--- Assumes nothing.
 use mathlib.Core.Path.{_≡_, refl, sym, ap, _∙_}
 use mathlib.Core.List.{List}
 use Prim.Native.Nat.{ℕ, _+_, _-_, _≤_}
