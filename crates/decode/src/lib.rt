@@ -5,8 +5,6 @@ ghost use Rattle.isa.specs.Find.{findOf};
 ghost use Rattle.isa.specs.Decode.{decodedOf, decodeOf};
 
 mod finding;
-mod operand;
-mod read;
 mod table;
 
 use isa::answer::Decoded;
@@ -44,7 +42,7 @@ pub fn decode(code: &[u8]) -> Decoded
     let w = bits::word(code);
     match finding::find_first(w, held(code.len())) {
         Find::At(place, n) => {
-            let r = read::read(place, w & table::ones_of(n));
+            let r = reading::read(place, w & table::ones_of(n));
             decoded(r, n)
         }
         Find::CutShort => Decoded::Refused(Refusal::CutShort),

@@ -16,21 +16,21 @@ use Rattle.isa.specs.Rows.{rows}
 use Rattle.isa.specs.Find.{Form, forms, matches}
 
 -- a form has four to eight bytes, a place in the list, and its fixed bits within its bytes
-abbrev pub lies : Form → Bool
-lies f =
+abbrev pub wellFormed : Form → Bool
+wellFormed f =
     leb 4 (f .bytes)
     && (leb (f .bytes) 8
     && (ltb (f .place) 22 && (ltb (f .mask) (2 ^ (8 * f .bytes)) && ltb (f .value) (2 ^ (8 * f .bytes)))))
 
-pub record Lies (f : Form) : Type 0 where
+pub record WellFormed (f : Form) : Type 0 where
   pub long : 4 ≤ f .bytes
   pub short : f .bytes ≤ 8
   pub placed : f .place < 22
   pub mask-lt : f .mask < 2 ^ (8 * f .bytes)
   pub value-lt : f .value < 2 ^ (8 * f .bytes)
 
-pub lies-of : (f : Form) → T (lies f) → Lies f
-lies-of f t =
+pub well-formed : (f : Form) → T (wellFormed f) → WellFormed f
+well-formed f t =
     let t1 = right (leb 4 (f .bytes)) _ t in
     let t2 = right (leb (f .bytes) 8) _ t1 in
     let t3 = right (ltb (f .place) 22) _ t2 in
@@ -42,9 +42,9 @@ lies-of f t =
       value-lt = ltb→lt (f .value) (2 ^ (8 * f .bytes)) (right (ltb (f .mask) (2 ^ (8 * f .bytes))) _ t3)
     }
 
-pub forms-lie : T (all lies forms)
+pub all-well-formed : T (all wellFormed forms)
 unfolding rows forms
-forms-lie = tt
+all-well-formed = tt
 
 pub and-left : (a b : Bool) → (a && b) ≡ true → a ≡ true
 and-left true b e = refl
@@ -54,7 +54,7 @@ pub and-right : (a b : Bool) → (a && b) ≡ true → b ≡ true
 and-right true b e = e
 and-right false b e = let z : _≡_ {A = ℕ} 0 1 = cc in absurd (omega arith)
 
-module _ (s : List ℕ) (hs : Bytes s) (f : Form) (lf : Lies f) where
+module _ (s : List ℕ) (hs : Bytes s) (f : Form) (lf : WellFormed f) where
   -- the fixed bits stand in the bytes of the form, so the word has them too
   pub in-word : bitAnd (le (take (f .bytes) s)) (f .mask) ≡ bitAnd (wordOf s) (f .mask)
   in-word =

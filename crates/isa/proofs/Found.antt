@@ -15,7 +15,7 @@ use Rattle.isa.specs.declared.answer.Find.{Find}
 use Rattle.isa.specs.declared.answer.Reading.{Reading}
 use Rattle.isa.specs.declared.answer.Decoded.{Decoded}
 use Rattle.isa.specs.declared.instruction.Instruction.{Instruction}
-use Rattle.isa.proofs.Forms.{Lies, lies, lies-of, forms-lie, and-left}
+use Rattle.isa.proofs.Forms.{WellFormed, wellFormed, well-formed, all-well-formed, and-left}
 
 -- a place of the list, and a length that is lent
 abbrev pub Lent : List ℕ → Find → Type 0
@@ -25,19 +25,19 @@ Lent s Find.NoDiagram = Unit {0}
 
 abbrev Best : List ℕ → Option Form → Type 0
 Best s none = Unit {0}
-Best s (some f) = Lies f × (f .bytes ≤ length s)
+Best s (some f) = WellFormed f × (f .bytes ≤ length s)
 
-better : (s : List ℕ) (f : Form) (best : Option Form) → Lies f → Best s best → (m b : Bool) → matches f s ≡ m
+better : (s : List ℕ) (f : Form) (best : Option Form) → WellFormed f → Best s best → (m b : Bool) → matches f s ≡ m
     → Best s (cond (m && b) (some f) best)
 better s f best lf h true true e = (lf, leb-true _ _ (and-left _ _ e))
 better s f best lf h true false e = h
 better s f best lf h false b e = h
 
-best : (s : List ℕ) (fs : List Form) (b : Option Form) → T (all lies fs) → Best s b → Best s (bestOf fs s b)
+best : (s : List ℕ) (fs : List Form) (b : Option Form) → T (all wellFormed fs) → Best s b → Best s (bestOf fs s b)
 best s [] b t h = h
 best s (f ∷ fs) b t h =
-    best s fs (cond (matches f s && beats f b) (some f) b) (right (lies f) _ t)
-    (better s f b (lies-of f (left (lies f) _ t)) h (matches f s) (beats f b) refl)
+    best s fs (cond (matches f s && beats f b) (some f) b) (right (wellFormed f) _ t)
+    (better s f b (well-formed f (left (wellFormed f) _ t)) h (matches f s) (beats f b) refl)
 
 of-best : (s : List ℕ) (b : Option Form) (more : Bool) → Best s b → Lent s (found b more)
 of-best s none true h = tt
@@ -45,7 +45,7 @@ of-best s none false h = tt
 of-best s (some f) more h = (h .0 .placed, h .0 .long, h .0 .short, h .1)
 
 pub found-lent : (s : List ℕ) → Lent s (findOf s)
-found-lent s = of-best s (bestOf forms s none) (anyGoesOn forms s) (best s forms none forms-lie tt)
+found-lent s = of-best s (bestOf forms s none) (anyGoesOn forms s) (best s forms none all-well-formed tt)
 
 abbrev Long : List ℕ → Decoded → Type 0
 Long s (Decoded.Found i m) = (4 ≤ m) × (m ≤ 8) × (m ≤ length s)

@@ -5,3 +5,4 @@ pub mod Printed
 pub mod Examples
 pub mod Found
 pub mod Placed
+pub mod Refused
