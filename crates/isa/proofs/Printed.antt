@@ -50,7 +50,7 @@ table =
 -- the row has the field, at the same bits
 abbrev hasSame : List Field → Field → Bool
 hasSame [] f = false
-hasSame (g ∷ gs) f = eqt (g .name) (f .name) && (eqb (g .hi) (f .hi) && eqb (g .lo) (f .lo)) || hasSame gs f
+hasSame (g ∷ gs) f = eqt (g .name) (f .name) && (eqb (g .at .hi) (f .at .hi) && eqb (g .at .lo) (f .at .lo)) || hasSame gs f
 
 abbrev sameLengths : List Form → List ℕ → Bool
 sameLengths [] [] = true

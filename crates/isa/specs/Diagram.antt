@@ -3,7 +3,7 @@ use Prim.Native.Nat.{ℕ, suc, _+_, _*_, _-_, _^_}
 use Prim.Native.Char.{code}
 use Prim.Native.String.{String}
 use mathlib.Core.Bool.{Bool, false, cond, _||_}
-use mathlib.Core.List.{List, [], _∷_}
+use mathlib.Core.List.{List, [], _∷_, map}
 use lib.Bits.{bitAnd, bitOr}
 use lib.Text.{eqt}
 use Rattle.bits.specs.Word.{fieldOf}
@@ -11,29 +11,28 @@ use Rattle.isa.specs.Text.{ascii}
 use Rattle.isa.specs.Bits.{Bits}
 use Rattle.isa.specs.declared.answer.Reading.{Reading}
 
--- the bits hi to lo, with the digits that are printed there, or with the field's name
-pub record Fixed : Type 0 where
+-- the bits hi to lo
+pub record Span : Type 0 where
   pub hi : ℕ
   pub lo : ℕ
+
+-- fixed bits, with the digits that are printed there
+pub record Fixed : Type 0 where
+  pub at : Span
   pub digits : String
 
 pub record Field : Type 0 where
   pub name : String
-  pub hi : ℕ
-  pub lo : ℕ
-
--- bits that are printed "?"
-pub record Unknown : Type 0 where
-  pub hi : ℕ
-  pub lo : ℕ
+  pub at : Span
 
 abbrev pub fixed : ℕ → ℕ → String → Fixed
-fixed h l d = record { hi = h; lo = l; digits = d }
+fixed h l d = record { at = record { hi = h; lo = l }; digits = d }
 
 abbrev pub field : String → ℕ → ℕ → Field
-field n h l = record { name = n; hi = h; lo = l }
+field n h l = record { name = n; at = record { hi = h; lo = l } }
 
-abbrev pub unknown : ℕ → ℕ → Unknown
+-- bits that are printed "?"
+abbrev pub unknown : ℕ → ℕ → Span
 unknown h l = record { hi = h; lo = l }
 
 -- what the fields of a word are, by name
@@ -46,23 +45,23 @@ pub record Diagram : Type 0 where
   pub bytes : ℕ
   pub fixeds : List Fixed
   pub fields : List Field
-  pub unknowns : List Unknown
+  pub unknowns : List Span
   pub read : Fields → ℕ → Reading
 
-abbrev pub diagram : String → ℕ → List Fixed → List Field → List Unknown → (Fields → ℕ → Reading) → Diagram
+abbrev pub diagram : String → ℕ → List Fixed → List Field → List Span → (Fields → ℕ → Reading) → Diagram
 diagram h n fx fs us r = record { heading = h; bytes = n; fixeds = fx; fields = fs; unknowns = us; read = r }
 
 -- ---- fields of a word
 
-abbrev pub widthOf : ℕ → ℕ → ℕ
-widthOf hi lo = suc hi - lo
+abbrev pub widthOf : Span → ℕ
+widthOf at = suc (at .hi) - at .lo
+
+abbrev pub bitsAt : Span → ℕ → Bits
+bitsAt at w = record { width = widthOf at; value = fieldOf w (at .lo) (widthOf at) }
 
 abbrev pub fieldIn : List Field → ℕ → Fields
 fieldIn [] w name = record { width = 0; value = 0 }
-fieldIn (f ∷ fs) w name =
-    cond (eqt (f .name) name)
-    (record { width = widthOf (f .hi) (f .lo); value = fieldOf w (f .lo) (widthOf (f .hi) (f .lo)) })
-    (fieldIn fs w name)
+fieldIn (f ∷ fs) w name = cond (eqt (f .name) name) (bitsAt (f .at) w) (fieldIn fs w name)
 
 abbrev pub hasField : List Field → String → Bool
 hasField [] name = false
@@ -70,17 +69,19 @@ hasField (f ∷ fs) name = eqt (f .name) name || hasField fs name
 
 -- ---- masks
 
--- ones at the bits hi to lo
-abbrev pub span : ℕ → ℕ → ℕ
-span hi lo = 2 ^ (widthOf hi lo + lo) - 2 ^ lo
+-- ones at the bits of a span, and of several
+abbrev pub spanMask : Span → ℕ
+spanMask at = 2 ^ (widthOf at + at .lo) - 2 ^ at .lo
+
+abbrev pub mask : List Span → ℕ
+mask [] = 0
+mask (at ∷ ats) = bitOr (spanMask at) (mask ats)
+
+abbrev pub spansOf : List Fixed → List Span
+spansOf fs = map (λ (f : Fixed). f .at) fs
 
 abbrev pub fixedMask : List Fixed → ℕ
-fixedMask [] = 0
-fixedMask (f ∷ fs) = bitOr (span (f .hi) (f .lo)) (fixedMask fs)
-
-abbrev pub unknownMask : List Unknown → ℕ
-unknownMask [] = 0
-unknownMask (u ∷ us) = bitOr (span (u .hi) (u .lo)) (unknownMask us)
+fixedMask fs = mask (spansOf fs)
 
 -- the number that the characters of binary digits spell, after those that spell n
 abbrev pub binaryFrom : ℕ → List ℕ → ℕ
@@ -92,13 +93,13 @@ binary digits = binaryFrom 0 (ascii digits)
 
 abbrev pub fixedValue : List Fixed → ℕ
 fixedValue [] = 0
-fixedValue (f ∷ fs) = bitOr (binary (f .digits) * 2 ^ f .lo) (fixedValue fs)
+fixedValue (f ∷ fs) = bitOr (binary (f .digits) * 2 ^ f .at .lo) (fixedValue fs)
 
 abbrev pub fixedCount : List Fixed → ℕ
 fixedCount [] = 0
-fixedCount (f ∷ fs) = widthOf (f .hi) (f .lo) + fixedCount fs
+fixedCount (f ∷ fs) = widthOf (f .at) + fixedCount fs
 
 -- ---- reading a word by a diagram
 
 abbrev pub readBy : Diagram → ℕ → Reading
-readBy r w = r .read (fieldIn (r .fields) w) (bitAnd w (unknownMask (r .unknowns)))
+readBy r w = r .read (fieldIn (r .fields) w) (bitAnd w (mask (r .unknowns)))

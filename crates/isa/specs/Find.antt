@@ -1,5 +1,5 @@
 -- Finding the instruction at the start of some bytes: the rule of "Finding the instruction" in the statement of what to build.
-use Prim.Native.Nat.{ℕ, suc, _-_}
+use Prim.Native.Nat.{ℕ, suc, _-_, _^_}
 use mathlib.Core.Bool.{Bool, true, false, cond, _&&_, _||_}
 use mathlib.Core.List.{List, [], _∷_, _++_}
 use mathlib.Core.Option.{Option, none, some}
@@ -7,7 +7,7 @@ use lib.Bits.{bitAnd, bitOr}
 use lib.Dec.{eqb, leb, ltb}
 use lib.ListN.{length, take}
 use Rattle.bits.specs.Word.{le, ones}
-use Rattle.isa.specs.Diagram.{Diagram, hasField, span, fixedMask, fixedValue, fixedCount}
+use Rattle.isa.specs.Diagram.{Diagram, hasField, fixedMask, fixedValue, fixedCount}
 use Rattle.isa.specs.Rows.{rows}
 use Rattle.isa.specs.declared.answer.Find.{Find}
 
@@ -34,7 +34,7 @@ formOf i d bytes mask value =
 
 -- the bit L
 abbrev pub bitL : ℕ
-bitL = span 15 15
+bitL = 2 ^ 15
 
 -- the last two bytes are absent where L is 0, the last four of a twelve-byte instruction
 abbrev pub absent : ℕ → ℕ

@@ -3,7 +3,7 @@ use Prim.Native.Nat.{ℕ}
 use mathlib.Core.Bool.{cond}
 use lib.Bits.{bitAnd}
 use lib.Dec.{eqb}
-use Rattle.isa.specs.Diagram.{Fields, fieldIn, unknownMask}
+use Rattle.isa.specs.Diagram.{Fields, fieldIn, mask}
 use Rattle.isa.specs.Decode.{rowAt}
 use Rattle.isa.specs.declared.instruction.Bitfield.{Bitfield}
 use Rattle.isa.specs.declared.instruction.Shift.{Shift}
@@ -33,4 +33,4 @@ abbrev pub fieldsAt : ℕ → ℕ → Fields
 fieldsAt place w = fieldIn (rowAt place .fields) w
 
 abbrev pub keptAt : ℕ → ℕ → ℕ
-keptAt place w = bitAnd w (unknownMask (rowAt place .unknowns))
+keptAt place w = bitAnd w (mask (rowAt place .unknowns))
