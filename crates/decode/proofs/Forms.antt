@@ -1,10 +1,12 @@
--- A bound on a number of every form, by one test over the list.
+-- A bound on a number of every form, by one equation over the list.
 use mathlib.Core.Path.{_≡_, refl}
+use mathlib.Core.Bool.{true}
 use mathlib.Core.List.{map}
 use Prim.Native.Nat.{ℕ, _<_}
-use lib.Dec.{T, ltb, ltb→lt}
-use lib.ListN.{length, getD, length-map}
-use Rattle.bits.proofs.Table.{every, at}
+use lib.Dec.{ltb}
+use lib.ListN.{length, getD}
+use borrow.Author.Tests.{ltb-true}
+use Rattle.bits.proofs.Table.{upto, agree}
 use Rattle.isa.specs.Rows.{rows}
 use Rattle.isa.specs.Find.{Form, forms}
 
@@ -12,7 +14,6 @@ pub length-forms : length forms ≡ 24
 unfolding rows forms
 length-forms = refl
 
-pub below : (g : Form → ℕ) (m : ℕ) → T (every (λ k x. ltb x m) 0 (map g forms)) → (i : ℕ) → i < 24 → getD (map g forms) i 0 < m
-below g m t i h =
-    ltb→lt (getD (map g forms) i 0) m
-    (at (λ k x. ltb x m) (map g forms) t i (rw (length-map forms g, length-forms) h))
+pub below : (g : Form → ℕ) (m : ℕ) → upto 24 (λ i. ltb (getD (map g forms) i 0) m) ≡ upto 24 (λ i. true)
+    → (i : ℕ) → i < 24 → getD (map g forms) i 0 < m
+below g m e i h = ltb-true (getD (map g forms) i 0) m (agree 24 (λ i. ltb (getD (map g forms) i 0) m) (λ i. true) e i h)

@@ -5,6 +5,7 @@ use mathlib.Core.List.{List, [], _∷_}
 use Prim.Native.Nat.{ℕ, zero, suc, _+_, _<_}
 use native.Mathlib.Nat.{le-of-suc-le-suc, not-suc-le-zero, add-zero, zero-add, add-suc, suc-add}
 use native.Mathlib.Omega.{arith}
+use lib.Dec.{T, ltb, ltb→lt}
 use lib.ListN.{length, getD, take}
 use Rattle.bits.specs.Word.{le}
 use Rattle.isa.specs.Diagram.{Diagram, Fields, readBy}
@@ -145,6 +146,34 @@ pub read-place : (p w : ℕ) → p < 22 → (i : Instruction) → readAt p w ≡
 read-place p w h i e =
     let r : At (0 + p) (readAt p w) = row-at rows 0 rows-at p (rw length-rows h) w in
     (rw (zero-add p) at r) .place i e
+
+-- every instruction has a place in the list
+pub place-below : (i : Instruction) → placeOf i < 22
+place-below i = ltb→lt (placeOf i) 22 (below i)
+  where
+    below : (i : Instruction) → T (ltb (placeOf i) 22)
+    below (Instruction.Mov16 a b c d) = tt
+    below (Instruction.Mov32 a b c d) = tt
+    below (Instruction.GetSr a b c) = tt
+    below (Instruction.Iadd a b c d e f g) = tt
+    below (Instruction.Imadd a b c d e f g h) = tt
+    below (Instruction.Bfi x) = tt
+    below (Instruction.Bfeil x) = tt
+    below (Instruction.Extr x) = tt
+    below (Instruction.Shlhi x) = tt
+    below (Instruction.Shrhi x) = tt
+    below (Instruction.Asr x) = tt
+    below (Instruction.Asrh x) = tt
+    below (Instruction.Bitop a b c d e f) = tt
+    below (Instruction.Bitrev x) = tt
+    below (Instruction.Popcount x) = tt
+    below (Instruction.Ffs x) = tt
+    below (Instruction.JmpExecAny x) = tt
+    below (Instruction.JmpExecNone x) = tt
+    below (Instruction.PopExec a b c) = tt
+    below (Instruction.IfIcmp x) = tt
+    below (Instruction.WhileIcmp x) = tt
+    below (Instruction.ElseIcmp x) = tt
 
 module _ (s : List ℕ) (i : Instruction) (n : ℕ) where
   of-reading : (p m : ℕ) → p < 22 → (r : Reading) → readAt p (le (take m s)) ≡ r → decodedOf r m ≡ Decoded.Found i n

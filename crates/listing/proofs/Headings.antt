@@ -3,55 +3,13 @@
 use mathlib.Core.Path.{_≡_, refl}
 use mathlib.Core.Bool.{true}
 use mathlib.Core.List.{List, [], _∷_, _++_}
-use Prim.Native.Nat.{ℕ, zero, suc, _+_, _-_, _≤_, _<_}
-use native.Mathlib.Nat.{le-of-suc-le-suc, not-suc-le-zero}
-use lib.Dec.{T, ltb, leb, ltb→lt}
+use Prim.Native.Nat.{ℕ, _+_, _-_, _≤_, _<_}
+use lib.Dec.{leb}
 use lib.ListN.{length, getD, take, drop}
 use borrow.Author.Tests.{leb-true}
+use Rattle.bits.proofs.Table.{upto, agree}
 use Rattle.isa.specs.Rows.{rows}
-use Rattle.isa.specs.Place.{placeOf}
-use Rattle.isa.specs.declared.instruction.Instruction.{Instruction}
 use Rattle.listing.specs.Listing.{tailAt}
-
--- ---- functions that agree below n
-
-abbrev pub upto : {A : Type 0} → ℕ → (ℕ → A) → List A
-upto zero f = []
-upto (suc n) f = f 0 ∷ upto n (λ k. f (suc k))
-
-pub agree : {A : Type 0} (n : ℕ) (f g : ℕ → A) → upto n f ≡ upto n g → (k : ℕ) → k < n → f k ≡ g k
-agree zero f g e k h = absurd (not-suc-le-zero h)
-agree (suc n) f g e zero h = cc
-agree (suc n) f g e (suc k) h = agree n (λ j. f (suc j)) (λ j. g (suc j)) (cc) k (le-of-suc-le-suc h)
-
-pub place-below : (i : Instruction) → placeOf i < 22
-place-below i = ltb→lt (placeOf i) 22 (below i)
-  where
-    below : (i : Instruction) → T (ltb (placeOf i) 22)
-    below (Instruction.Mov16 a b c d) = tt
-    below (Instruction.Mov32 a b c d) = tt
-    below (Instruction.GetSr a b c) = tt
-    below (Instruction.Iadd a b c d e f g) = tt
-    below (Instruction.Imadd a b c d e f g h) = tt
-    below (Instruction.Bfi x) = tt
-    below (Instruction.Bfeil x) = tt
-    below (Instruction.Extr x) = tt
-    below (Instruction.Shlhi x) = tt
-    below (Instruction.Shrhi x) = tt
-    below (Instruction.Asr x) = tt
-    below (Instruction.Asrh x) = tt
-    below (Instruction.Bitop a b c d e f) = tt
-    below (Instruction.Bitrev x) = tt
-    below (Instruction.Popcount x) = tt
-    below (Instruction.Ffs x) = tt
-    below (Instruction.JmpExecAny x) = tt
-    below (Instruction.JmpExecNone x) = tt
-    below (Instruction.PopExec a b c) = tt
-    below (Instruction.IfIcmp x) = tt
-    below (Instruction.WhileIcmp x) = tt
-    below (Instruction.ElseIcmp x) = tt
-
--- ---- the table
 
 abbrev pub flat : List (List ℕ) → List ℕ
 flat [] = []

@@ -17,7 +17,8 @@ use Rattle.listing.specs.Walk.{Walk, refused, stepped, walkFrom, walkOf,
 use Rattle.listing.specs.Listing.{lineOf, tailAt, endLine, refusedLine, textOf, listingOf, listedOf, leftBy}
 use Rattle.listing.specs.declared.Listed.{Listed}
 use Rattle.listing.proofs.Pieces.{length-line}
-use Rattle.listing.proofs.Headings.{size-right, size-small, place-below}
+use Rattle.isa.proofs.Placed.{place-below}
+use Rattle.listing.proofs.Headings.{size-right, size-small}
 use Rattle.listing.proofs.Left.{step-all}
 
 -- an instruction of n bytes, at least four, takes at most 7 * n

@@ -1,3 +1,4 @@
+use mathlib.Core.Path.{refl}
 use Rattle.decode.proofs.Forms.{below}
 use Rattle.decode.specs.First.{noForm}
 use Rattle.isa.specs.Find.{Form, forms}
@@ -15,7 +16,7 @@ array-read-result c = search needs
 
 returns : tie.Need-returns
 unfolding rows forms
-returns c = (List·getD-map (λ (f : Form). f .place) forms (c .args .i) noForm, below (λ (f : Form). f .place) 22 tt (c .args .i) (c .pre))
+returns c = (List·getD-map (λ (f : Form). f .place) forms (c .args .i) noForm, below (λ (f : Form). f .place) 22 refl (c .args .i) (c .pre))
 
 pub place-of-spec : {M : Type 1} → statement M
 place-of-spec = tie.close (tie.spec mul-result array-read-result returns)

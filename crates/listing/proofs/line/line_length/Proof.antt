@@ -5,7 +5,7 @@ use native.Mathlib.Omega.{arith}
 use lib.ListN.{length}
 use Rattle.isa.specs.Place.{placeOf}
 use Rattle.listing.specs.Listing.{tailAt}
-use Rattle.listing.proofs.Headings.{place-below}
+use Rattle.isa.proofs.Placed.{place-below}
 use borrow.Author.Needs.{needs}
 use Rattle.listing.proofs.line.line_length.Statement.{statement}
 use Rattle.listing.proofs.line.line_length.Tie as tie

@@ -9,7 +9,7 @@ use Rattle.isa.specs.Text.{ascii}
 use Rattle.isa.specs.Place.{placeOf}
 use Rattle.listing.specs.Listing.{hexAddress, hexBytes, tailAt, lineOf}
 use Rattle.listing.proofs.Pieces.{after, length-hexBytes}
-use Rattle.listing.proofs.Headings.{place-below}
+use Rattle.isa.proofs.Placed.{place-below}
 use borrow.Author.Needs.{needs}
 use Rattle.listing.proofs.line.put_line.Statement.{statement}
 use Rattle.listing.proofs.line.put_line.Tie as tie
