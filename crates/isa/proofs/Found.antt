@@ -5,16 +5,15 @@ use mathlib.Core.List.{List, [], _∷_}
 use mathlib.Core.Option.{Option, none, some}
 use Prim.Native.Nat.{ℕ, _≤_, _<_}
 use lib.Dec.{T}
-use lib.ListN.{length, take}
+use lib.ListN.{length}
 use borrow.Author.Tests.{leb-true}
-use Rattle.bits.specs.Word.{le}
 use Rattle.bits.proofs.Table.{all, left, right}
 use Rattle.isa.specs.Find.{Form, forms, matches, beats, bestOf, anyGoesOn, found, findOf}
-use Rattle.isa.specs.Decode.{readAt, decodedOf, readFound, decodeOf}
+use Rattle.isa.specs.Decode.{decodeOf}
 use Rattle.isa.specs.declared.answer.Find.{Find}
-use Rattle.isa.specs.declared.answer.Reading.{Reading}
 use Rattle.isa.specs.declared.answer.Decoded.{Decoded}
 use Rattle.isa.specs.declared.instruction.Instruction.{Instruction}
+use Rattle.isa.proofs.Cases.{cases}
 use Rattle.isa.proofs.Forms.{WellFormed, wellFormed, well-formed, all-well-formed, and-left}
 
 -- a place of the list, and a length that is lent
@@ -48,19 +47,11 @@ pub found-lent : (s : List ℕ) → Lent s (findOf s)
 found-lent s = of-best s (bestOf forms s none) (anyGoesOn forms s) (best s forms none all-well-formed tt)
 
 abbrev Long : List ℕ → Decoded → Type 0
-Long s (Decoded.Found i m) = (4 ≤ m) × (m ≤ 8) × (m ≤ length s)
+Long s (Decoded.Found i n) = (4 ≤ n) × (n ≤ 8) × (n ≤ length s)
 Long s (Decoded.Refused r) = Unit {0}
-
-of-reading : (s : List ℕ) (r : Reading) (n : ℕ) → (4 ≤ n) × (n ≤ 8) × (n ≤ length s) → Long s (decodedOf r n)
-of-reading s (Reading.Is i) n h = h
-of-reading s Reading.NoMeaning n h = tt
-
-of-found : (s : List ℕ) (f : Find) → Lent s f → Long s (readFound f s)
-of-found s (Find.At p n) h = of-reading s (readAt p (le (take n s))) n (h .1, h .2, h .3)
-of-found s Find.CutShort h = tt
-of-found s Find.NoDiagram h = tt
 
 -- a decoded instruction has four to eight bytes, and they are lent
 pub found-length : (s : List ℕ) (i : Instruction) (n : ℕ) → decodeOf s ≡ Decoded.Found i n → (4 ≤ n) × (n ≤ 8) × (n ≤ length s)
-unfolding decodeOf
-found-length s i n e = subst (Long s) e (of-found s (findOf s) (found-lent s))
+found-length s i n e =
+    subst (Long s) e
+    (cases (Long s) s (λ p m j f g. let l = subst (Lent s) f (found-lent s) in (l .1, l .2, l .3)) (λ r a b. tt))

@@ -1,8 +1,8 @@
 -- A decoded instruction is of the diagram that was found: its place in the list is the one that the finding rule answers.
-use mathlib.Core.Path.{_≡_, refl, sym, ap, ap₂, _∙_}
+use mathlib.Core.Path.{_≡_, refl, sym, ap, ap₂, _∙_, subst}
 use mathlib.Core.Bool.{Bool, true, false, cond}
 use mathlib.Core.List.{List, [], _∷_}
-use Prim.Native.Nat.{ℕ, zero, suc, _+_, _<_}
+use Prim.Native.Nat.{ℕ, zero, suc, _+_, _≤_, _<_}
 use native.Mathlib.Nat.{le-of-suc-le-suc, not-suc-le-zero, add-zero, zero-add, add-suc, suc-add}
 use native.Mathlib.Omega.{arith}
 use lib.Dec.{T, ltb, ltb→lt}
@@ -13,8 +13,9 @@ use Rattle.isa.specs.Operand.{meansCondition}
 use Rattle.isa.specs.Together.{withDst, withUnary, withBinary, withTernary, withCompared, withCondition}
 use Rattle.isa.specs.Read.{bitfield, shift, scan, compare}
 use Rattle.isa.specs.Rows.{rows}
+use Rattle.isa.specs.Refusal.{numberOf}
 use Rattle.isa.specs.Find.{findOf}
-use Rattle.isa.specs.Decode.{noDiagram, readAt, decodedOf, readFound, decodeOf}
+use Rattle.isa.specs.Decode.{noDiagram, readAt, decodeOf}
 use Rattle.isa.specs.Place.{placeOf}
 use Rattle.isa.specs.declared.operand.Dst.{Dst}
 use Rattle.isa.specs.declared.operand.Unary.{Unary}
@@ -31,9 +32,11 @@ use Rattle.isa.specs.declared.instruction.Shift.{Shift}
 use Rattle.isa.specs.declared.instruction.Scan.{Scan}
 use Rattle.isa.specs.declared.instruction.Compare.{Compare}
 use Rattle.isa.specs.declared.instruction.Instruction.{Instruction}
+use Rattle.isa.specs.declared.answer.Refusal.{Refusal}
 use Rattle.isa.specs.declared.answer.Find.{Find}
 use Rattle.isa.specs.declared.answer.Reading.{Reading}
 use Rattle.isa.specs.declared.answer.Decoded.{Decoded}
+use Rattle.isa.proofs.Cases.{cases}
 use Rattle.isa.proofs.Found.{Lent, found-lent}
 
 -- what was read, if anything, has the place p
@@ -175,21 +178,17 @@ place-below i = ltb→lt (placeOf i) 22 (below i)
     below (Instruction.WhileIcmp x) = tt
     below (Instruction.ElseIcmp x) = tt
 
-module _ (s : List ℕ) (i : Instruction) (n : ℕ) where
-  of-reading : (p m : ℕ) → p < 22 → (r : Reading) → readAt p (le (take m s)) ≡ r → decodedOf r m ≡ Decoded.Found i n
-      → Find.At p m ≡ Find.At (placeOf i) n
-  of-reading p m h (Reading.Is j) e d =
-      let ej : j ≡ i = cc in
-      let em : m ≡ n = cc in
-      ap₂ (λ (x y : ℕ). Find.At x y) (sym (read-place p (le (take m s)) h j e) ∙ ap placeOf ej) em
-  of-reading p m h Reading.NoMeaning e d = let z : _≡_ {A = ℕ} 0 1 = cc in absurd (omega arith)
-
-  of-find : (f : Find) → Lent s f → readFound f s ≡ Decoded.Found i n → f ≡ Find.At (placeOf i) n
-  of-find (Find.At p m) h d = of-reading p m (h .0) (readAt p (le (take m s))) refl d
-  of-find Find.CutShort h d = let z : _≡_ {A = ℕ} 0 1 = cc in absurd (omega arith)
-  of-find Find.NoDiagram h d = let z : _≡_ {A = ℕ} 0 1 = cc in absurd (omega arith)
-
-  -- what decodes to an instruction was found at the place of its diagram
-  pub found-place : decodeOf s ≡ Decoded.Found i n → findOf s ≡ Find.At (placeOf i) n
-  unfolding decodeOf
-  found-place d = of-find (findOf s) (found-lent s) d
+-- what decodes to an instruction was found at the place of its diagram
+pub found-place : (s : List ℕ) (i : Instruction) (n : ℕ) → decodeOf s ≡ Decoded.Found i n → findOf s ≡ Find.At (placeOf i) n
+found-place s = cases (λ d. (i : Instruction) (n : ℕ) → d ≡ Decoded.Found i n → findOf s ≡ Find.At (placeOf i) n) s here refused
+  where
+    here : (p m : ℕ) (j : Instruction) → findOf s ≡ Find.At p m → readAt p (le (take m s)) ≡ Reading.Is j
+        → (i : Instruction) (n : ℕ) → Decoded.Found j m ≡ Decoded.Found i n → findOf s ≡ Find.At (placeOf i) n
+    here p m j f g i n e =
+        let l = subst (Lent s) f (found-lent s) in
+        let ej : j ≡ i = cc in
+        let em : m ≡ n = cc in
+        f ∙ ap₂ (λ (x y : ℕ). Find.At x y) (sym (read-place p (le (take m s)) (l .0) j g) ∙ ap placeOf ej) em
+    refused : (r : Refusal) → 2 ≤ numberOf r → numberOf r ≤ 4
+        → (i : Instruction) (n : ℕ) → Decoded.Refused r ≡ Decoded.Found i n → findOf s ≡ Find.At (placeOf i) n
+    refused r a b i n e = let z : _≡_ {A = ℕ} 0 1 = cc in absurd (omega arith)
