@@ -2,7 +2,7 @@
 use Prim.Native.Nat.{ℕ, suc, _+_, _*_, _-_, _^_}
 use Prim.Native.Char.{code}
 use Prim.Native.String.{String}
-use mathlib.Core.Bool.{Bool, false, cond, _||_}
+use mathlib.Core.Bool.{cond}
 use mathlib.Core.List.{List, [], _∷_, map}
 use lib.Bits.{bitAnd, bitOr}
 use lib.Text.{eqt}
@@ -63,10 +63,6 @@ abbrev pub fieldIn : List Field → ℕ → Fields
 fieldIn [] w name = record { width = 0; value = 0 }
 fieldIn (f ∷ fs) w name = cond (eqt (f .name) name) (bitsAt (f .at) w) (fieldIn fs w name)
 
-abbrev pub hasField : List Field → String → Bool
-hasField [] name = false
-hasField (f ∷ fs) name = eqt (f .name) name || hasField fs name
-
 -- ---- masks
 
 -- ones at the bits of a span, and of several
@@ -76,6 +72,11 @@ spanMask at = 2 ^ (widthOf at + at .lo) - 2 ^ at .lo
 abbrev pub mask : List Span → ℕ
 mask [] = 0
 mask (at ∷ ats) = bitOr (spanMask at) (mask ats)
+
+-- of the field of a name; none where there is no such field
+abbrev pub fieldMask : List Field → String → ℕ
+fieldMask [] name = 0
+fieldMask (f ∷ fs) name = cond (eqt (f .name) name) (spanMask (f .at)) (fieldMask fs name)
 
 abbrev pub spansOf : List Fixed → List Span
 spansOf fs = map (λ (f : Fixed). f .at) fs

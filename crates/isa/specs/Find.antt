@@ -1,5 +1,5 @@
 -- Finding the instruction at the start of some bytes: the rule of "Finding the instruction" in the statement of what to build.
-use Prim.Native.Nat.{ℕ, suc, _-_, _^_}
+use Prim.Native.Nat.{ℕ, suc, _-_}
 use mathlib.Core.Bool.{Bool, true, false, cond, _&&_, _||_}
 use mathlib.Core.List.{List, [], _∷_, _++_}
 use mathlib.Core.Option.{Option, none, some}
@@ -7,7 +7,7 @@ use lib.Bits.{bitAnd, bitOr}
 use lib.Dec.{eqb, leb, ltb}
 use lib.ListN.{length, take}
 use Rattle.bits.specs.Word.{le, ones}
-use Rattle.isa.specs.Diagram.{Diagram, hasField, fixedMask, fixedValue, fixedCount}
+use Rattle.isa.specs.Diagram.{Diagram, fieldMask, fixedMask, fixedValue, fixedCount}
 use Rattle.isa.specs.Rows.{rows}
 use Rattle.isa.specs.declared.answer.Find.{Find}
 
@@ -32,19 +32,19 @@ formOf i d bytes mask value =
       count = fixedCount (d .fixeds)
     }
 
--- the bit L
-abbrev pub bitL : ℕ
-bitL = 2 ^ 15
-
 -- the last two bytes are absent where L is 0, the last four of a twelve-byte instruction
 abbrev pub absent : ℕ → ℕ
 absent bytes = cond (eqb bytes 12) 4 2
 
-abbrev pub formsAt : ℕ → Diagram → List Form
-formsAt i d =
-    cond (hasField (d .fields) "L")
-    (formOf i d (d .bytes - absent (d .bytes)) bitL 0 ∷ formOf i d (d .bytes) bitL bitL ∷ [])
+-- of a diagram whose bit L, as a mask, is l: one form where it has none, else the short one with L = 0 and the long one with L = 1
+abbrev pub formsBy : ℕ → ℕ → Diagram → List Form
+formsBy l i d =
+    cond (eqb l 0)
     (formOf i d (d .bytes) 0 0 ∷ [])
+    (formOf i d (d .bytes - absent (d .bytes)) l 0 ∷ formOf i d (d .bytes) l l ∷ [])
+
+abbrev pub formsAt : ℕ → Diagram → List Form
+formsAt i d = formsBy (fieldMask (d .fields) "L") i d
 
 -- the forms of the diagrams of a list, whose first has the place i
 abbrev pub formsFrom : ℕ → List Diagram → List Form

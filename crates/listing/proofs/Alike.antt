@@ -17,6 +17,10 @@ use Rattle.listing.specs.Listing.{lineOf, endLine, textOf, listingOf}
 use Rattle.listing.proofs.Apart.{text-same}
 use Rattle.listing.proofs.Seen.{plain, seen}
 
+-- A listing that reaches `end` has shown every byte.
+pub shown-whole : (a : List ℕ) → refusal (walkOf a) ≡ none → shown (walkOf a) ≡ a
+shown-whole a e = seen a .whole (le-refl (length a)) e
+
 module _ (a b : List ℕ) (bytes-a : Bytes a) (bytes-b : Bytes b) (same : listingOf a ≡ listingOf b) where
   -- Two kernels listed alike show the same bytes, stop at the same address, and have the same refusal or none. What stands at and
   -- after a refusal may differ.
@@ -32,7 +36,7 @@ module _ (a b : List ℕ) (bytes-a : Bytes a) (bytes-b : Bytes b) (same : listin
   pub alike : refusal (walkOf a) ≡ none → a ≡ b
   alike none-a =
       let t = alike-before in
-      sym (seen a .whole (le-refl (length a)) none-a) ∙ t .0 ∙ seen b .whole (le-refl (length b)) (sym (t .2) ∙ none-a)
+      sym (shown-whole a none-a) ∙ t .0 ∙ shown-whole b (sym (t .2) ∙ none-a)
 
 -- The bytes shown are those before the address where the listing stops.
 pub shown-before : (a : List ℕ) → shown (walkOf a) ≡ take (stop (walkOf a)) a

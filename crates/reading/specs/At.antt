@@ -1,4 +1,4 @@
--- Operands by their bit numbers: in every diagram D stands at 14 to 9 and Dt at 8 to 7, and a source's flags follow its six low bits.
+-- Operands by their bit numbers: a D stands at 14 to 9 and its Dt at 8 to 7, and a source's flags follow its six low bits.
 -- Only the place of an operand's two high bits differs from diagram to diagram.
 use Prim.Native.Nat.{ℕ, _+_, _*_, _-_}
 use mathlib.Core.Bool.{Bool, false}
