@@ -1,5 +1,5 @@
 -- A word of little-endian bytes, and a field of a word.
-use Prim.Native.Nat.{ℕ, _+_, _*_, _-_, _/_, _%_, _^_}
+use Prim.Native.Nat.{ℕ, zero, suc, _+_, _*_, _-_, _/_, _%_, _^_}
 use mathlib.Core.List.{List, [], _∷_}
 use lib.ListN.{take}
 
@@ -7,6 +7,11 @@ use lib.ListN.{take}
 abbrev pub le : List ℕ → ℕ
 le [] = 0
 le (b ∷ bs) = b + 256 * le bs
+
+-- the first n little-endian bytes of a number
+abbrev pub bytesOf : ℕ → ℕ → List ℕ
+bytesOf zero w = []
+bytesOf (suc n) w = w % 256 ∷ bytesOf n (w / 256)
 
 -- the first eight bytes as a number; absent bytes are zero
 abbrev pub wordOf : List ℕ → ℕ

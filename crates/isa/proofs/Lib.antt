@@ -5,4 +5,5 @@ pub mod Printed
 pub mod Examples
 pub mod Cases
 pub mod Found
+pub mod WasRead
 pub mod Placed

@@ -1,6 +1,5 @@
 -- A decoded instruction is of the diagram that was found: its place in the list is the one that the finding rule answers.
 use mathlib.Core.Path.{_≡_, refl, sym, ap, ap₂, _∙_, subst}
-use mathlib.Core.Bool.{Bool, true, false, cond}
 use mathlib.Core.List.{List, [], _∷_}
 use Prim.Native.Nat.{ℕ, zero, suc, _+_, _≤_, _<_}
 use native.Mathlib.Nat.{le-of-suc-le-suc, not-suc-le-zero, add-zero, zero-add, add-suc, suc-add}
@@ -9,7 +8,6 @@ use lib.Dec.{T, ltb, ltb→lt}
 use lib.ListN.{length, getD, take}
 use Rattle.bits.specs.Word.{le}
 use Rattle.isa.specs.Diagram.{Diagram, Fields, readBy}
-use Rattle.isa.specs.Operand.{meansCondition}
 use Rattle.isa.specs.Together.{withDst, withUnary, withBinary, withTernary, withCompared, withCondition}
 use Rattle.isa.specs.Read.{bitfield, shift, scan, compare}
 use Rattle.isa.specs.Rows.{rows}
@@ -38,65 +36,48 @@ use Rattle.isa.specs.declared.answer.Reading.{Reading}
 use Rattle.isa.specs.declared.answer.Decoded.{Decoded}
 use Rattle.isa.proofs.Cases.{cases}
 use Rattle.isa.proofs.Found.{Lent, found-lent}
+use Rattle.isa.proofs.WasRead.{Reads, is-reads, on-dst, on-unary, on-binary, on-ternary, on-compared, on-condition}
 
 -- what was read, if anything, has the place p
-record At (p : ℕ) (r : Reading) : Type 0 where
-  place : (i : Instruction) → r ≡ Reading.Is i → placeOf i ≡ p
-
-none-at : (p : ℕ) → At p Reading.NoMeaning
-none-at p = record { place = λ i e. let z : _≡_ {A = ℕ} 0 1 = cc in absurd (omega arith) }
+abbrev At : ℕ → Reading → Type 0
+At p = Reads (λ i. placeOf i ≡ p)
 
 is-at : (p : ℕ) (j : Instruction) → placeOf j ≡ p → At p (Reading.Is j)
-is-at p j h = record { place = λ i e. let z : j ≡ i = cc in ap placeOf (sym z) ∙ h }
+is-at p = is-reads (λ i. placeOf i ≡ p)
 
 -- whatever the operands are
 module _ (p : ℕ) where
-  on-dst : (r : ReadDst) (k : Dst → Reading) → ((d : Dst) → At p (k d)) → At p (withDst r k)
-  unfolding withDst
-  on-dst (ReadDst.Is d) k h = h d
-  on-dst ReadDst.NoMeaning k h = none-at p
+  dst-at : (r : ReadDst) (k : Dst → Reading) → ((d : Dst) → At p (k d)) → At p (withDst r k)
+  dst-at r k h = on-dst (λ i. placeOf i ≡ p) r k (λ d e. h d)
 
-  on-unary : (r : ReadUnary) (k : Unary → Reading) → ((o : Unary) → At p (k o)) → At p (withUnary r k)
-  unfolding withUnary
-  on-unary (ReadUnary.Is o) k h = h o
-  on-unary ReadUnary.NoMeaning k h = none-at p
+  unary-at : (r : ReadUnary) (k : Unary → Reading) → ((o : Unary) → At p (k o)) → At p (withUnary r k)
+  unary-at r k h = on-unary (λ i. placeOf i ≡ p) r k (λ o e. h o)
 
-  on-binary : (r : ReadBinary) (k : Binary → Reading) → ((o : Binary) → At p (k o)) → At p (withBinary r k)
-  unfolding withBinary
-  on-binary (ReadBinary.Is o) k h = h o
-  on-binary ReadBinary.NoMeaning k h = none-at p
+  binary-at : (r : ReadBinary) (k : Binary → Reading) → ((o : Binary) → At p (k o)) → At p (withBinary r k)
+  binary-at r k h = on-binary (λ i. placeOf i ≡ p) r k (λ o e. h o)
 
-  on-ternary : (r : ReadTernary) (k : Ternary → Reading) → ((o : Ternary) → At p (k o)) → At p (withTernary r k)
-  unfolding withTernary
-  on-ternary (ReadTernary.Is o) k h = h o
-  on-ternary ReadTernary.NoMeaning k h = none-at p
+  ternary-at : (r : ReadTernary) (k : Ternary → Reading) → ((o : Ternary) → At p (k o)) → At p (withTernary r k)
+  ternary-at r k h = on-ternary (λ i. placeOf i ≡ p) r k (λ o e. h o)
 
-  on-compared : (r : ReadCompared) (k : Compared → Reading) → ((o : Compared) → At p (k o)) → At p (withCompared r k)
-  unfolding withCompared
-  on-compared (ReadCompared.Is o) k h = h o
-  on-compared ReadCompared.NoMeaning k h = none-at p
+  compared-at : (r : ReadCompared) (k : Compared → Reading) → ((o : Compared) → At p (k o)) → At p (withCompared r k)
+  compared-at r k h = on-compared (λ i. placeOf i ≡ p) r k (λ o e. h o)
 
-  on-condition : (cc : ℕ) (r : Reading) → At p r → At p (withCondition cc r)
-  unfolding withCondition
-  on-condition cc r h = go (meansCondition cc)
-    where
-      go : (b : Bool) → At p (cond b r Reading.NoMeaning)
-      go true = h
-      go false = none-at p
+  condition-at : (cc : ℕ) (r : Reading) → At p r → At p (withCondition cc r)
+  condition-at cc r h = on-condition (λ i. placeOf i ≡ p) cc r (λ e. h)
 
 -- the layouts of several diagrams
 module _ (p : ℕ) (f : Fields) (k : ℕ) where
   bitfield-at : (make : Bitfield → Instruction) → ((x : Bitfield) → placeOf (make x) ≡ p) → At p (bitfield make f k)
-  bitfield-at make h = on-ternary p _ _ (λ o. is-at p _ (h _))
+  bitfield-at make h = ternary-at p _ _ (λ o. is-at p _ (h _))
 
   shift-at : (make : Shift → Instruction) → ((x : Shift) → placeOf (make x) ≡ p) → At p (shift make f k)
-  shift-at make h = on-binary p _ _ (λ o. is-at p _ (h _))
+  shift-at make h = binary-at p _ _ (λ o. is-at p _ (h _))
 
   scan-at : (make : Scan → Instruction) → ((x : Scan) → placeOf (make x) ≡ p) → At p (scan make f k)
-  scan-at make h = on-unary p _ _ (λ o. is-at p _ (h _))
+  scan-at make h = unary-at p _ _ (λ o. is-at p _ (h _))
 
   compare-at : (make : Compare → Instruction) → ((x : Compare) → placeOf (make x) ≡ p) → At p (compare make f k)
-  compare-at make h = on-condition p _ _ (on-compared p _ _ (λ o. is-at p _ (h _)))
+  compare-at make h = condition-at p _ _ (compared-at p _ _ (λ o. is-at p _ (h _)))
 
 -- the diagrams of a list, whose first has the place p, read instructions of their own places
 abbrev AllAt : ℕ → List Diagram → Type 0
@@ -111,11 +92,11 @@ a & b = (a, b)
 rows-at : AllAt 0 rows
 unfolding rows _&_
 rows-at =
-    (λ f k. on-dst 0 _ _ (λ d. is-at 0 _ refl))
-    & (λ f k. on-dst 1 _ _ (λ d. is-at 1 _ refl))
-    & (λ f k. on-dst 2 _ _ (λ d. is-at 2 _ refl))
-    & (λ f k. on-binary 3 _ _ (λ o. is-at 3 _ refl))
-    & (λ f k. on-ternary 4 _ _ (λ o. is-at 4 _ refl))
+    (λ f k. dst-at 0 _ _ (λ d. is-at 0 _ refl))
+    & (λ f k. dst-at 1 _ _ (λ d. is-at 1 _ refl))
+    & (λ f k. dst-at 2 _ _ (λ d. is-at 2 _ refl))
+    & (λ f k. binary-at 3 _ _ (λ o. is-at 3 _ refl))
+    & (λ f k. ternary-at 4 _ _ (λ o. is-at 4 _ refl))
     & (λ f k. bitfield-at 5 f k Instruction.Bfi (λ x. refl))
     & (λ f k. bitfield-at 6 f k Instruction.Bfeil (λ x. refl))
     & (λ f k. bitfield-at 7 f k Instruction.Extr (λ x. refl))
@@ -123,7 +104,7 @@ rows-at =
     & (λ f k. bitfield-at 9 f k Instruction.Shrhi (λ x. refl))
     & (λ f k. shift-at 10 f k Instruction.Asr (λ x. refl))
     & (λ f k. shift-at 11 f k Instruction.Asrh (λ x. refl))
-    & (λ f k. on-binary 12 _ _ (λ o. is-at 12 _ refl))
+    & (λ f k. binary-at 12 _ _ (λ o. is-at 12 _ refl))
     & (λ f k. scan-at 13 f k Instruction.Bitrev (λ x. refl))
     & (λ f k. scan-at 14 f k Instruction.Popcount (λ x. refl))
     & (λ f k. scan-at 15 f k Instruction.Ffs (λ x. refl))
@@ -148,7 +129,7 @@ length-rows = refl
 pub read-place : (p w : ℕ) → p < 22 → (i : Instruction) → readAt p w ≡ Reading.Is i → placeOf i ≡ p
 read-place p w h i e =
     let r : At (0 + p) (readAt p w) = row-at rows 0 rows-at p (rw length-rows h) w in
-    (rw (zero-add p) at r) .place i e
+    (rw (zero-add p) at r) .holds i e
 
 -- every instruction has a place in the list
 pub place-below : (i : Instruction) → placeOf i < 22

@@ -7,3 +7,5 @@ numberOf Refusal.BadSize = 1
 numberOf Refusal.CutShort = 2
 numberOf Refusal.NoDiagram = 3
 numberOf Refusal.NoMeaning = 4
+numberOf Refusal.NoEncoding = 8
+numberOf Refusal.ShortBuffer = 9

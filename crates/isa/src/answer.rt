@@ -1,4 +1,4 @@
-// The answers of finding, reading and decoding, and the refusals with their numbers.
+// The answers of finding, reading, decoding and encoding, and the refusals with their numbers.
 ghost use mathlib.Core.Path.{_≡_};
 ghost use Rattle.isa.specs.Refusal.{numberOf};
 use crate::instruction::Instruction;
@@ -9,6 +9,8 @@ pub enum Refusal {
     CutShort,
     NoDiagram,
     NoMeaning,
+    NoEncoding,
+    ShortBuffer,
 }
 
 // What the finding rule answers: the place of a diagram in the list, counted from 0, and the length of the instruction in bytes.
@@ -30,6 +32,12 @@ pub enum Decoded {
     Refused(Refusal),
 }
 
+// What encoding answers: the number of bytes written, or the refusal.
+pub enum Encoded {
+    Wrote(usize),
+    Refused(Refusal),
+}
+
 pub fn number(r: Refusal) -> u8
     ensures { λ n. ⌜ n ≡ numberOf r ⌝ }
 {
@@ -38,5 +46,7 @@ pub fn number(r: Refusal) -> u8
         Refusal::CutShort => 2,
         Refusal::NoDiagram => 3,
         Refusal::NoMeaning => 4,
+        Refusal::NoEncoding => 8,
+        Refusal::ShortBuffer => 9,
     }
 }

@@ -75,7 +75,11 @@ rest-tail i x =
 -- ---- the last line
 
 named : ℕ → Refusal
-named c = cond (eqb c 49) Refusal.BadSize (cond (eqb c 50) Refusal.CutShort (cond (eqb c 51) Refusal.NoDiagram Refusal.NoMeaning))
+named c =
+    cond (eqb c 49) Refusal.BadSize
+    (cond (eqb c 50) Refusal.CutShort
+    (cond (eqb c 51) Refusal.NoDiagram
+    (cond (eqb c 52) Refusal.NoMeaning (cond (eqb c 56) Refusal.NoEncoding Refusal.ShortBuffer))))
 
 named-digit : (r : Refusal) → named (digit (numberOf r)) ≡ r
 unfolding named
@@ -83,6 +87,8 @@ named-digit Refusal.BadSize = refl
 named-digit Refusal.CutShort = refl
 named-digit Refusal.NoDiagram = refl
 named-digit Refusal.NoMeaning = refl
+named-digit Refusal.NoEncoding = refl
+named-digit Refusal.ShortBuffer = refl
 
 -- ---- a walk
 

@@ -37,3 +37,5 @@ number-below Refusal.BadSize = lit< tt
 number-below Refusal.CutShort = lit< tt
 number-below Refusal.NoDiagram = lit< tt
 number-below Refusal.NoMeaning = lit< tt
+number-below Refusal.NoEncoding = lit< tt
+number-below Refusal.ShortBuffer = lit< tt
