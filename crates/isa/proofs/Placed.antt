@@ -7,6 +7,7 @@ use native.Mathlib.Omega.{arith}
 use lib.Dec.{T, ltb, ltb→lt}
 use lib.ListN.{length, getD, take}
 use Rattle.bits.specs.Word.{le}
+use Rattle.bits.proofs.Table.{_&_}
 use Rattle.isa.specs.Diagram.{Diagram, Fields, readBy}
 use Rattle.isa.specs.Together.{withDst, withUnary, withBinary, withTernary, withCompared, withCondition}
 use Rattle.isa.specs.Read.{bitfield, shift, scan, compare}
@@ -84,13 +85,8 @@ abbrev AllAt : ℕ → List Diagram → Type 0
 AllAt p [] = Unit {0}
 AllAt p (d ∷ ds) = ((f : Fields) (k : ℕ) → At p (d .read f k)) × AllAt (suc p) ds
 
-infixr 5 _&_
-
-_&_ : {A B : Type 0} → A → B → A × B
-a & b = (a, b)
-
 rows-at : AllAt 0 rows
-unfolding rows _&_
+unfolding rows
 rows-at =
     (λ f k. dst-at 0 _ _ (λ d. is-at 0 _ refl))
     & (λ f k. dst-at 1 _ _ (λ d. is-at 1 _ refl))

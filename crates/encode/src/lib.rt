@@ -1,0 +1,1 @@
+// Encoding one instruction.

@@ -1,0 +1,6 @@
+pub mod Operands
+pub mod Words
+pub mod Told
+pub mod Back
+pub mod Round
+pub mod Why
