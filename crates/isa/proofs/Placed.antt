@@ -117,7 +117,7 @@ row-at [] p a j h w = absurd (not-suc-le-zero h)
 row-at (d ∷ ds) p a zero h w = rw (add-zero p) (a .0 _ _)
 row-at (d ∷ ds) p a (suc j) h w = rw (add-suc p j, ← suc-add p j) (row-at ds (suc p) (a .1) j (le-of-suc-le-suc h) w)
 
-length-rows : length rows ≡ 22
+pub length-rows : length rows ≡ 22
 unfolding rows
 length-rows = refl
 

@@ -29,7 +29,7 @@ use Rattle.isa.specs.declared.answer.Decoded.{Decoded}
 use Rattle.isa.specs.declared.instruction.Instruction.{Instruction}
 use Rattle.isa.proofs.Forms.{and-left, and-right}
 use Rattle.isa.proofs.Found.{formAt, Matched, found-form, only-form, found-length}
-use Rattle.isa.proofs.Placed.{place-below, found-place}
+use Rattle.isa.proofs.Placed.{length-rows, place-below, found-place}
 use Rattle.isa.proofs.WasRead.{Reads}
 use Rattle.parts.specs.Parts.{partsOf, lengthBy, lengthFor}
 use Rattle.parts.proofs.Kind.{kind-of}
@@ -109,10 +109,6 @@ told-at : (rs : List Diagram) → AllTold rs → (j : ℕ) → j < length rs →
 told-at [] a j h = absurd (not-suc-le-zero h)
 told-at (r ∷ rs) a zero h = a .0
 told-at (r ∷ rs) a (suc j) h = told-at rs (a .1) j (le-of-suc-le-suc h)
-
-length-rows : length rows ≡ 22
-unfolding rows
-length-rows = refl
 
 -- ---- what was decoded, was found and read
 

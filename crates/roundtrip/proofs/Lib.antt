@@ -4,3 +4,5 @@ pub mod Told
 pub mod Back
 pub mod Round
 pub mod Why
+pub mod Placing
+pub mod Again

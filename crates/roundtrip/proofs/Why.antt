@@ -1,30 +1,43 @@
--- The reasons of refusal 8: what is accepted has none of them, so an instruction that has one is refused with 8, whatever the buffer.
-use mathlib.Core.Path.{_≡_, refl, sym, ap, ap₂, _∙_, subst}
+-- The reasons of refusal 8, and no others: what is accepted has none of them, and what has none of them is accepted.
+use mathlib.Core.Path.{_≡_, refl, sym, ap, ap₂, _∙_}
 use mathlib.Core.Bool.{Bool, true, false}
 use mathlib.Core.List.{List, [], _∷_}
-use Prim.Native.Nat.{ℕ, _*_, _/_, _^_, _<_}
-use native.Mathlib.Nat.{mod-lt}
+use mathlib.Core.Logic.{_↔_}
+use Prim.Native.Nat.{ℕ, _+_, _*_, _/_, _^_, _<_}
+use native.Mathlib.Nat.{le-refl, mod-lt}
 use native.Mathlib.Omega.{arith}
-use lib.Bits.{bitAnd, and-self}
-use lib.ListN.{take}
+use lib.Bits.{bitAnd, bitOr, and-self, or-zero-l}
+use lib.Dec.{T, eqb}
+use lib.ListN.{take, drop}
 use lib.Pow.{pow-pos}
-use Rattle.bits.specs.Word.{le, fieldOf}
-use Rattle.bits.proofs.Laws.{Bytes, bytes-bytesOf}
+use borrow.Author.Tests.{eqb-true, eqb-false}
+use Rattle.bits.specs.Word.{le, bytesOf}
+use Rattle.bits.proofs.Laws.{Bytes, bytes-bytesOf, take-bytes, le-bytes, pow-bytes}
 use Rattle.bits.proofs.Masks.{and-assoc}
-use Rattle.isa.specs.Diagram.{Field, widthOf, mask}
-use Rattle.isa.specs.Decode.{rowAt, decodeOf}
+use Rattle.bits.proofs.Table.{_&_, all-at}
+use Rattle.isa.specs.Diagram.{Field, widthOf, mask, fixedValue}
+use Rattle.isa.specs.Rows.{rows}
+use Rattle.isa.specs.Decode.{noDiagram, rowAt, readAt, decodedOf, readFound, decodeOf}
 use Rattle.isa.specs.Place.{placeOf}
+use Rattle.isa.specs.declared.operand.Dst.{Dst}
 use Rattle.isa.specs.declared.answer.Refusal.{Refusal}
+use Rattle.isa.specs.declared.answer.Find.{Find}
+use Rattle.isa.specs.declared.answer.Reading.{Reading}
 use Rattle.isa.specs.declared.answer.Decoded.{Decoded}
 use Rattle.isa.specs.declared.answer.Encoded.{Encoded}
 use Rattle.isa.specs.declared.instruction.Instruction.{Instruction}
-use Rattle.isa.proofs.Placed.{found-place}
-use Rattle.writing.specs.Write.{Named, fieldsFor, keptOf, wordFor}
+use Rattle.isa.proofs.Placed.{length-rows, place-below, found-place}
+use Rattle.writing.specs.Write.{Named, numberIn, put, dstFlags, cacheBit, fieldsFor, keptOf, wordFor}
 use Rattle.encode.specs.Encode.{lengthOf, bytesFor, accepts, encodedOf, leftBy}
-use Rattle.roundtrip.specs.Reasons.{Held, Within, FieldsFit, KeptFits, NoAbsentBit, Finds, Encodable}
+use Rattle.roundtrip.specs.Reasons.{Held, HoldsDst, HoldsMov, Within, FieldsFit, KeptFits, NoAbsentBit, Finds, Encodable}
+use Rattle.roundtrip.proofs.Operands.{dst-back}
 use Rattle.roundtrip.proofs.Words.{Agree}
-use Rattle.roundtrip.proofs.Back.{told, word-lt, word-back, length-back}
-use Rattle.roundtrip.proofs.Round.{accepted-decodes}
+use Rattle.roundtrip.proofs.Placing.{or-and, kept-off, separate, all-separate, clear, Settled, settled, off-unknown, has-kept, has-settled, has-clear}
+use Rattle.roundtrip.proofs.Again.{Has, mov16-again, mov32-again, get-sr-again, iadd-again, imadd-again, bitfield-again, shift-layout-again, bitop-again, scan-again, jump-again, pop-exec-again, compare-again}
+use Rattle.roundtrip.proofs.Back.{told, word-lt, word-back}
+use Rattle.roundtrip.proofs.Round.{accepted-decodes, decoded-accepted}
+
+-- ---- what is accepted has none of the reasons
 
 -- fields that a word has are within their widths
 within : (w : ℕ) (fs : List Field) (ns : List Named) → Agree w fs ns → Within fs ns
@@ -50,6 +63,117 @@ accepted-encodable i a =
       absent = rw (word-back s hs i n e) (word-lt s hs i n e);
       finds = found-place s i n e
     }
+
+-- ---- what has none of the reasons is accepted
+
+-- a mov's destination is one of any place
+any-place : (u : ℕ) (d : Dst) → HoldsMov u d → HoldsDst false d
+any-place u d (v, t, hv, ht, e, z) = (v, t, hv, ht, e)
+
+module _ (i : Instruction) (e : Encodable i) where
+  separate-row : T (separate (rowAt (placeOf i)))
+  separate-row = all-at separate rows noDiagram all-separate (placeOf i) (rw length-rows (place-below i))
+
+  -- its word has its fields and its kept bits, if no field has a bit that is fixed to 1
+  has : T (clear (rowAt (placeOf i))) → Has (wordFor i) (rowAt (placeOf i)) (fieldsFor i) (keptOf i)
+  unfolding wordFor
+  has c =
+      (has-clear (rowAt (placeOf i)) separate-row (fieldsFor i) (keptOf i) (e .fields) (e .kept) c,
+        has-kept (rowAt (placeOf i)) separate-row (fieldsFor i) (keptOf i) (e .fields) (e .kept))
+
+-- bit 8 of a mov32 is fixed to 1, and 1 in Dt
+upper-set : (t : ℕ) → t / 2 ≡ 1 → bitOr 256 (put 7 t) ≡ put 7 t
+upper-set t h = go (eqb t 2) refl
+  where
+    go : (b : Bool) → eqb t 2 ≡ b → bitOr 256 (put 7 t) ≡ put 7 t
+    go true z = let w : t ≡ 2 = eqb-true t 2 z in rw w
+    go false z = let w : t ≡ 3 = (let n = eqb-false t 2 z in omega arith) in rw w
+
+module _ (d : Dst) (imm l kept : ℕ) (e : Encodable (Instruction.Mov32 d imm l kept)) where
+  abbrev ns : List Named
+  ns = fieldsFor (Instruction.Mov32 d imm l kept)
+
+  upper : numberIn ns "Dt" / 2 ≡ 1
+  unfolding Held fieldsFor
+  upper =
+      let h : HoldsMov 1 d = e .held in
+      ap (λ (x : ℕ). x / 2) (dst-back false (h .0) (h .1) d (h .3) (h .4) .1) ∙ h .5
+
+  mov32-settled : Settled (bitOr kept (fixedValue (rowAt 1 .fixeds))) (rowAt 1 .fields) ns
+  unfolding rows keptOf
+  mov32-settled =
+      let k : bitAnd kept (mask (rowAt 1 .unknowns)) ≡ kept = e .kept in
+      let z : bitAnd (bitOr kept 0x162) 0x180 ≡ 0x100 =
+            or-and kept 0x162 0x180 ∙ ap (λ (x : ℕ). bitOr x 0x100) (kept-off kept (mask (rowAt 1 .unknowns)) 0x180 k refl) ∙ or-zero-l 0x100 in
+      (ap (λ (x : ℕ). bitOr x (put 7 (numberIn ns "Dt"))) z ∙ upper-set (numberIn ns "Dt") upper)
+      & settled kept 0x162 (mask (rowAt 1 .unknowns)) (drop 1 (rowAt 1 .fields)) ns k tt tt
+
+  mov32-has : Has (wordFor (Instruction.Mov32 d imm l kept)) (rowAt 1) ns kept
+  unfolding wordFor keptOf
+  mov32-has =
+      let t = separate-row (Instruction.Mov32 d imm l kept) e in
+      (has-settled (rowAt 1) t ns kept (e .fields) (e .kept) mov32-settled, has-kept (rowAt 1) t ns kept (e .fields) (e .kept))
+
+-- its word is read as the instruction
+reads : (i : Instruction) → Encodable i → readAt (placeOf i) (wordFor i) ≡ Reading.Is i
+unfolding rows fieldsFor keptOf Held
+reads (Instruction.Mov16 d imm l kept) e =
+    let i = Instruction.Mov16 d imm l kept in
+    mov16-again (wordFor i) d imm l kept (has i e tt) (any-place 0 d (e .held))
+reads (Instruction.Mov32 d imm l kept) e =
+    mov32-again (wordFor (Instruction.Mov32 d imm l kept)) d imm l kept (mov32-has d imm l kept e) (any-place 1 d (e .held))
+reads (Instruction.GetSr d sr kept) e = let i = Instruction.GetSr d sr kept in get-sr-again (wordFor i) d sr kept (has i e tt) (e .held)
+reads (Instruction.Iadd o s n sa sb x kept) e =
+    let i = Instruction.Iadd o s n sa sb x kept in
+    iadd-again (wordFor i) o s n sa sb x kept (has i e tt) (e .held)
+reads (Instruction.Imadd o s n sa sb sc x kept) e =
+    let i = Instruction.Imadd o s n sa sb sc x kept in
+    imadd-again (wordFor i) o s n sa sb sc x kept (has i e tt) (e .held)
+reads (Instruction.Bfi x) e = bitfield-again (wordFor (Instruction.Bfi x)) Instruction.Bfi x (has (Instruction.Bfi x) e tt) (e .held)
+reads (Instruction.Bfeil x) e = bitfield-again (wordFor (Instruction.Bfeil x)) Instruction.Bfeil x (has (Instruction.Bfeil x) e tt) (e .held)
+reads (Instruction.Extr x) e = bitfield-again (wordFor (Instruction.Extr x)) Instruction.Extr x (has (Instruction.Extr x) e tt) (e .held)
+reads (Instruction.Shlhi x) e = bitfield-again (wordFor (Instruction.Shlhi x)) Instruction.Shlhi x (has (Instruction.Shlhi x) e tt) (e .held)
+reads (Instruction.Shrhi x) e = bitfield-again (wordFor (Instruction.Shrhi x)) Instruction.Shrhi x (has (Instruction.Shrhi x) e tt) (e .held)
+reads (Instruction.Asr x) e = shift-layout-again (wordFor (Instruction.Asr x)) Instruction.Asr x (has (Instruction.Asr x) e tt) (e .held)
+reads (Instruction.Asrh x) e = shift-layout-again (wordFor (Instruction.Asrh x)) Instruction.Asrh x (has (Instruction.Asrh x) e tt) (e .held)
+reads (Instruction.Bitop o t0 t1 t2 t3 kept) e =
+    let i = Instruction.Bitop o t0 t1 t2 t3 kept in
+    bitop-again (wordFor i) o t0 t1 t2 t3 kept (has i e tt) (e .held)
+reads (Instruction.Bitrev x) e = scan-again (wordFor (Instruction.Bitrev x)) Instruction.Bitrev x (has (Instruction.Bitrev x) e tt) (e .held)
+reads (Instruction.Popcount x) e = scan-again (wordFor (Instruction.Popcount x)) Instruction.Popcount x (has (Instruction.Popcount x) e tt) (e .held)
+reads (Instruction.Ffs x) e = scan-again (wordFor (Instruction.Ffs x)) Instruction.Ffs x (has (Instruction.Ffs x) e tt) (e .held)
+reads (Instruction.JmpExecAny off) e =
+    let i = Instruction.JmpExecAny off in
+    jump-again (wordFor i) Instruction.JmpExecAny off 0 (has i e tt)
+reads (Instruction.JmpExecNone off) e =
+    let i = Instruction.JmpExecNone off in
+    jump-again (wordFor i) Instruction.JmpExecNone off 0 (has i e tt)
+reads (Instruction.PopExec h n kept) e =
+    let i = Instruction.PopExec h n kept in
+    pop-exec-again (wordFor i) h n kept (has i e tt) (e .held)
+reads (Instruction.IfIcmp x) e = compare-again (wordFor (Instruction.IfIcmp x)) Instruction.IfIcmp x (has (Instruction.IfIcmp x) e tt) (e .held)
+reads (Instruction.WhileIcmp x) e = compare-again (wordFor (Instruction.WhileIcmp x)) Instruction.WhileIcmp x (has (Instruction.WhileIcmp x) e tt) (e .held)
+reads (Instruction.ElseIcmp x) e = compare-again (wordFor (Instruction.ElseIcmp x)) Instruction.ElseIcmp x (has (Instruction.ElseIcmp x) e tt) (e .held)
+
+pub encodable-accepted : (i : Instruction) → Encodable i → accepts i ≡ true
+unfolding decodeOf
+encodable-accepted i e = decoded-accepted (bytesFor i) (bytes-bytesOf (lengthOf i) (wordFor i)) i (lengthOf i) decodes
+  where
+    n : ℕ
+    n = lengthOf i
+    again : le (take n (bytesFor i)) ≡ wordFor i
+    again =
+        let l : wordFor i < 2 ^ (8 * n) = e .absent in
+        ap le (take-bytes n n (wordFor i) (le-refl n)) ∙ le-bytes n (wordFor i) (rw (← pow-bytes n) l)
+    decodes : decodeOf (bytesFor i) ≡ Decoded.Found i n
+    decodes =
+        ap (λ (x : Find). readFound x (bytesFor i)) (e .finds)
+        ∙ ap (λ (w : ℕ). decodedOf (readAt (placeOf i) w) n) again
+        ∙ ap (λ (x : Reading). decodedOf x n) (reads i e)
+
+-- the encoder accepts exactly the instructions that have none of the reasons of refusal 8
+pub accepts-encodable : (i : Instruction) → (accepts i ≡ true) ↔ Encodable i
+accepts-encodable i = (accepted-encodable i, encodable-accepted i)
 
 -- an instruction that has not all of these is refused with 8, and the buffer is left as it was
 pub refused-for : (i : Instruction) → (Encodable i → ⊥) → (out : List ℕ)
