@@ -1,1 +1,65 @@
-// Encoding one instruction.
+// Encoding one instruction: its word is put together, decoded again, and compared with what was given.
+ghost use mathlib.Core.Path.{_≡_};
+ghost use Prim.Native.Nat.{_≤_};
+ghost use lib.ListN.{length};
+ghost use lib.Seq.{paste};
+ghost use Rattle.encode.specs.Encode.{isFound, encodedOf, leftBy, encodedFrom, leftFrom};
+
+use form::Spelled;
+use isa::answer::Decoded;
+use isa::answer::Encoded;
+use isa::answer::Refusal;
+use isa::instruction::Instruction;
+
+fn is_found(d: Decoded, i: Instruction, n: usize) -> bool
+    ensures { λ r. ⌜ r ≡ isFound d i n ⌝ }
+{
+    match d {
+        Decoded::Found(j, m) => {
+            if m == n {
+                parts::same(j, i)
+            } else {
+                false
+            }
+        }
+        Decoded::Refused(_) => false,
+    }
+}
+
+fn copy(out: &mut [u8], src: &[u8])
+    requires { ⌜ length (now src) ≤ length (now out) ⌝ }
+    ensures { λ r. ⌜ now (out .exit) ≡ paste (now (out .entry)) 0 (now (src .entry)) (length (now (src .entry))) ⌝ }
+{
+    let mut k = 0;
+    while k < src.len() {
+        out[k] = src[k];
+        k += 1;
+    }
+}
+
+// Writes the instruction's bytes at the start of the buffer, and answers their number. Refused, it writes nothing.
+pub fn encode(i: Instruction, out: &mut [u8]) -> Encoded
+    ensures { λ r. ⌜ (r ≡ encodedOf i (now (out .entry))) × (now (out .exit) ≡ leftBy i (now (out .entry))) ⌝ }
+{
+    let n = parts::length_of(parts::parts_of(i));
+    let b = bits::bytes_of(writing::word_for(i));
+    if is_found(decode::decode(&b[..n]), i, n) {
+        if n <= out.len() {
+            copy(out, &b[..n]);
+            return Encoded::Wrote(n);
+        }
+        return Encoded::Refused(Refusal::ShortBuffer);
+    }
+    Encoded::Refused(Refusal::NoEncoding)
+}
+
+// The same, of an instruction in its byte form.
+pub fn encode_form(form: &[u8], out: &mut [u8]) -> Encoded
+    ensures { λ r. ⌜ (r ≡ encodedFrom (now (form .entry)) (now (out .entry)))
+        × (now (out .exit) ≡ leftFrom (now (form .entry)) (now (out .entry))) ⌝ }
+{
+    match form::from_bytes(form) {
+        Spelled::Is(i) => encode(i, out),
+        Spelled::None => Encoded::Refused(Refusal::NoEncoding),
+    }
+}

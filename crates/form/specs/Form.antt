@@ -29,10 +29,11 @@ use Rattle.parts.specs.declared.Parts.{Parts}
 abbrev pub slotBytes : Slot → List ℕ
 slotBytes s = s .kind ∷ s .hint ∷ bytesOf 2 (s .number)
 
-abbrev pub layOut : Parts → List ℕ
-layOut p =
+-- the parts, and the length n of the encoding
+abbrev pub layWith : Parts → ℕ → List ℕ
+layWith p n =
     -- 0: kind, length, l, m
-    (p .kind ∷ lengthFor p ∷ p .l ∷ p .m ∷ [])
+    (p .kind ∷ n ∷ p .l ∷ p .m ∷ [])
     -- 4: d, a, b, c
     ++ slotBytes (p .d) ++ slotBytes (p .a) ++ slotBytes (p .b) ++ slotBytes (p .c)
     -- 20: immediate
@@ -45,6 +46,9 @@ layOut p =
     ++ (p .condition .cc ∷ p .condition .ccn ∷ p .condition .n ∷ 0 ∷ 0 ∷ 0 ∷ [])
     -- 40: kept
     ++ bytesOf 8 (p .kept)
+
+abbrev pub layOut : Parts → List ℕ
+layOut p = layWith p (lengthFor p)
 
 abbrev pub formOf : Instruction → List ℕ
 formOf i = layOut (partsOf i)

@@ -1,8 +1,66 @@
 // The byte form of an instruction: 48 bytes for callers in other languages. docs/byte-form.md has the layout.
+ghost use mathlib.Core.Path.{_≡_};
+ghost use lib.ListN.{length};
+ghost use Rattle.parts.specs.Parts.{eqList};
+ghost use Rattle.form.specs.Form.{formOf, spelledOf};
+
+mod lay;
+mod read;
+
+use crate::lay::lay_out;
+use crate::read::instruction_from;
 use isa::instruction::Instruction;
+use parts::length_of;
+use parts::parts_of;
 
 // What bytes spell: an instruction, or none.
 pub enum Spelled {
     Is(Instruction),
     None,
+}
+
+// The byte form, from which every instruction is read back.
+pub fn to_bytes(i: Instruction) -> [u8; 48]
+    ensures { λ r. ⌜ (r ≡ formOf i) × (spelledOf r ≡ Spelled.Is i) ⌝ }
+{
+    let p = parts_of(i);
+    let n = length_of(p);
+    lay_out(p, n as u8)
+}
+
+fn same(a: &[u8], b: &[u8]) -> bool
+    requires { ⌜ length (now a) ≡ length (now b) ⌝ }
+    ensures { λ r. ⌜ r ≡ eqList (now (a .entry)) (now (b .entry)) ⌝ }
+{
+    let mut i = 0;
+    while i < a.len() {
+        if a[i] != b[i] {
+            return false;
+        }
+        i += 1;
+    }
+    true
+}
+
+// The instruction that bytes spell: they must be its byte form, and nothing else.
+pub fn from_bytes(b: &[u8]) -> Spelled
+    ensures { λ r. ⌜ r ≡ spelledOf (now (b .entry)) ⌝ }
+{
+    if b.len() != 48 {
+        return Spelled::None;
+    }
+    let kind = b[0];
+    if kind == 0 {
+        return Spelled::None;
+    }
+    if 22 < kind {
+        return Spelled::None;
+    }
+    let i = instruction_from(kind, b);
+    let f = to_bytes(i);
+    if same(&f, b) {
+        Spelled::Is(i)
+    } else {
+        Spelled::None
+    }
 }

@@ -1,9 +1,10 @@
 -- The length of an encoding, by the place of its diagram in the list: computed over the rows.
-use mathlib.Core.Path.{_≡_}
+use mathlib.Core.Path.{_≡_, sym}
 use mathlib.Core.Bool.{Bool, true, false, cond, _&&_}
 use Prim.Native.Nat.{ℕ, _+_, _-_, _≤_, _<_}
 use native.Mathlib.Omega.{arith}
 use lib.Dec.{T, eqb, leb, leb→le}
+use lib.ListN.{List·getD-eq-default}
 use Rattle.bits.proofs.Table.{left, right, all, all-at, upto, agree}
 use Rattle.isa.specs.Diagram.{Diagram, fieldMask}
 use Rattle.isa.specs.Rows.{rows}
@@ -12,21 +13,29 @@ use Rattle.isa.specs.Decode.{noDiagram, rowAt}
 use Rattle.isa.specs.Place.{placeOf}
 use Rattle.isa.specs.declared.instruction.Instruction.{Instruction}
 use Rattle.isa.proofs.Placed.{place-below}
-use Rattle.parts.specs.Parts.{partsOf, lengthBy, lengthFor}
+use Rattle.parts.specs.declared.Parts.{Parts}
+use Rattle.parts.specs.Parts.{partsOf, lengthFor}
 use Rattle.parts.proofs.Kind.{kind-of}
 
--- where the n places from a on have one length, each has it
-pub places : (a n m l : ℕ) → upto n (λ j. lengthBy (rowAt (a + j)) l) ≡ upto n (λ j. m)
-    → (k : ℕ) → a ≤ k → k < a + n → lengthBy (rowAt k) l ≡ m
-places a n m l e k h g =
-    let s : a + (k - a) ≡ k = omega arith in
-    rw s at (agree n (λ j. lengthBy (rowAt (a + j)) l) (λ j. m) e (k - a) (omega arith))
-
--- ---- four to eight bytes
-
--- the length, by whether L is 0
+-- of a diagram, by whether L is 0
 abbrev lengthAs : Bool → Diagram → ℕ
 lengthAs b r = cond (eqb (fieldMask (r .fields) "L") 0) (r .bytes) (cond b (r .bytes - absent (r .bytes)) (r .bytes))
+
+-- ---- by the kind
+
+-- the length m of the n places from a on
+pub length-at : (p : Parts) (a n m : ℕ) (b : Bool) → eqb (p .l) 0 ≡ b → a ≤ p .kind - 1 → p .kind - 1 < a + n
+    → upto n (λ j. lengthAs b (rowAt (a + j))) ≡ upto n (λ j. m) → m ≡ lengthFor p
+unfolding lengthFor
+length-at p a n m b t h g e =
+    let s : a + (p .kind - 1 - a) ≡ p .kind - 1 = omega arith in
+    rw t (sym (rw s at (agree n (λ j. lengthAs b (rowAt (a + j))) (λ j. m) e (p .kind - 1 - a) (omega arith))))
+
+pub length-past : (p : Parts) → 22 < p .kind → 0 ≡ lengthFor p
+unfolding lengthFor rows
+length-past p h = rw (List·getD-eq-default rows noDiagram {n = p .kind - 1} (omega arith))
+
+-- ---- four to eight bytes
 
 abbrev fourToEight : Bool → Diagram → Bool
 fourToEight b r = leb 4 (lengthAs b r) && leb (lengthAs b r) 8

@@ -1,10 +1,13 @@
--- The comparison of two lists of numbers: it says whether they are equal.
+-- The comparison of two lists of numbers says whether they are equal.
 use mathlib.Core.Path.{_≡_, refl, ap₂}
-use mathlib.Core.Bool.{true}
+use mathlib.Core.Bool.{true, _&&_}
 use mathlib.Core.List.{List, [], _∷_}
-use Prim.Native.Nat.{ℕ}
+use Prim.Native.Nat.{ℕ, _+_, _≤_, _<_}
+use native.Mathlib.Numerals.{add-one}
 use native.Mathlib.Omega.{arith}
 use lib.Dec.{eqb}
+use lib.ListN.{length, getD, drop, drop-of-length-le}
+use lib.Seq.{drop-cons}
 use borrow.Author.Tests.{eqb-true, eq-eqb}
 use Rattle.isa.proofs.Forms.{and-left, and-right}
 use Rattle.parts.specs.Parts.{eqList}
@@ -20,3 +23,12 @@ eqList-is (x ∷ xs) (y ∷ ys) e =
 pub eqList-self : (a : List ℕ) → eqList a a ≡ true
 eqList-self [] = refl
 eqList-self (x ∷ xs) = rw (eq-eqb x x refl) (eqList-self xs)
+
+-- ---- a step and the end of the loop
+
+pub eq-step : (a b : List ℕ) (i : ℕ) → i < length a → i < length b
+    → eqList (drop i a) (drop i b) ≡ (eqb (getD a i 0) (getD b i 0) && eqList (drop (i + 1) a) (drop (i + 1) b))
+eq-step a b i h g = rw (add-one i) (ap₂ eqList (drop-cons a i 0 h) (drop-cons b i 0 g))
+
+pub eq-end : (a b : List ℕ) (i : ℕ) → length a ≤ i → length b ≤ i → eqList (drop i a) (drop i b) ≡ true
+eq-end a b i h g = ap₂ eqList (drop-of-length-le a h) (drop-of-length-le b g)

@@ -3,6 +3,7 @@ pub mod Words
 pub mod Told
 pub mod Back
 pub mod Round
-pub mod Why
 pub mod Placing
 pub mod Again
+pub mod Why
+pub mod Examples

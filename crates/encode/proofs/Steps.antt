@@ -1,0 +1,79 @@
+-- The steps of encoding: copying the bytes, and what each answer leaves.
+use mathlib.Core.Path.{_≡_, refl, sym, ap, ap₂, _∙_}
+use mathlib.Core.Bool.{Bool, true, false}
+use mathlib.Core.List.{List, _++_}
+use Prim.Native.Nat.{ℕ, _+_, _≤_, _<_}
+use native.Mathlib.Nat.{zero-add, le-of-suc-le-suc}
+use native.Mathlib.Numerals.{add-one}
+use native.Mathlib.Omega.{arith}
+use lib.Dec.{leb}
+use lib.ListN.{length, getD, take, drop, set}
+use lib.Seq.{take-length, paste, paste-suc}
+use borrow.Author.Tests.{eq-eqb, ne-eqb, le-leb, lt-leb}
+use Rattle.bits.specs.Word.{bytesOf}
+use Rattle.bits.proofs.Laws.{length-bytesOf, take-bytes}
+use Rattle.isa.specs.Decode.{decodeOf}
+use Rattle.isa.specs.declared.answer.Refusal.{Refusal}
+use Rattle.isa.specs.declared.answer.Decoded.{Decoded}
+use Rattle.isa.specs.declared.answer.Encoded.{Encoded}
+use Rattle.isa.specs.declared.instruction.Instruction.{Instruction}
+use Rattle.parts.specs.Parts.{partsOf, lengthFor, same}
+use Rattle.parts.specs.declared.Parts.{Parts}
+use Rattle.writing.specs.Write.{wordFor}
+use Rattle.encode.specs.Encode.{lengthOf, bytesFor, isFound, accepts, encodedOf, leftBy}
+
+pub paste-more : (d s out : List ℕ) (j : ℕ) → out ≡ paste d 0 s j → j < length d → j < length s → set out j (getD s j 0) ≡ paste d 0 s (j + 1)
+paste-more d s out j e h g =
+    let h' : 0 + j < length d = omega arith in
+    rw (e, add-one j) (ap (λ (k : ℕ). set (paste d 0 s j) k (getD s j 0)) (sym (zero-add j)) ∙ paste-suc d 0 s j 0 h' g)
+
+pub length-eight : (n w : ℕ) (bs : List ℕ) → bs ≡ bytesOf 8 w → n < 9 → length (take n bs) ≡ n
+length-eight n w bs e h = rw (e, take-bytes 8 n w (le-of-suc-le-suc h)) (length-bytesOf n w)
+
+pub found-same : (d : Decoded) (i j : Instruction) (m n : ℕ) → d ≡ Decoded.Found j m → m ≡ n → isFound d i n ≡ same j i
+found-same d i j m n e f = rw (e, eq-eqb m n f)
+
+pub found-other : (d : Decoded) (i j : Instruction) (m n : ℕ) → d ≡ Decoded.Found j m → (m ≡ n → ⊥) → isFound d i n ≡ false
+found-other d i j m n e f = rw (e, ne-eqb m n f)
+
+-- p, n, w, bs, d and t are what the calls gave
+module _ (i : Instruction) (p : Parts) (n w : ℕ) (bs : List ℕ) (d : Decoded) (t : Bool) (ep : p ≡ partsOf i) (ln : (n ≡ lengthFor p) × (n < 9))
+  (ew : w ≡ wordFor i) (eb : bs ≡ bytesOf 8 w) (ed : d ≡ decodeOf (take n bs)) (et : t ≡ isFound d i n) where
+
+  en : n ≡ lengthOf i
+  en = ln .0 ∙ ap lengthFor ep
+
+  hn : n < 9
+  hn = ln .1
+
+  bytes : take n bs ≡ bytesFor i
+  bytes = ap (λ (l : List ℕ). take n l) eb ∙ take-bytes 8 n w (le-of-suc-le-suc hn) ∙ ap₂ bytesOf en ew
+
+  test : t ≡ accepts i
+  unfolding accepts
+  test = et ∙ ap₂ (λ (y : Decoded) (k : ℕ). isFound y i k) (ed ∙ ap decodeOf bytes) en
+
+  pub wrote : (out last : List ℕ) → t ≡ true → n ≤ length out → last ≡ paste out 0 (take n bs) (length (take n bs))
+      → (Encoded.Wrote n ≡ encodedOf i out) × (last ≡ leftBy i out)
+  unfolding encodedOf leftBy
+  wrote out last e h l =
+      let a : accepts i ≡ true = sym test ∙ e in
+      let k : leb (lengthOf i) (length out) ≡ true = rw (← en) (le-leb n (length out) h) in
+      let z : length (take n bs) ≡ lengthOf i = length-eight n w bs eb hn ∙ en in
+      let p : paste out 0 (take n bs) (length (take n bs)) ≡ bytesFor i ++ drop (lengthOf i) out =
+            ap₂ (λ (u v : List ℕ). u ++ v) (take-length (take n bs) ∙ bytes) (ap (λ (q : ℕ). drop q out) (zero-add (length (take n bs)) ∙ z)) in
+      (rw (a, k) (ap Encoded.Wrote en), rw (a, k) (l ∙ p))
+
+  pub short : (out : List ℕ) → t ≡ true → length out < n
+      → (Encoded.Refused Refusal.ShortBuffer ≡ encodedOf i out) × (out ≡ leftBy i out)
+  unfolding encodedOf leftBy
+  short out e h =
+      let a : accepts i ≡ true = sym test ∙ e in
+      let k : leb (lengthOf i) (length out) ≡ false = rw (← en) (lt-leb n (length out) h) in
+      (rw (a, k), rw (a, k))
+
+  pub refused : (out : List ℕ) → t ≡ false → (Encoded.Refused Refusal.NoEncoding ≡ encodedOf i out) × (out ≡ leftBy i out)
+  unfolding encodedOf leftBy
+  refused out e =
+      let a : accepts i ≡ false = sym test ∙ e in
+      (rw a, rw a)

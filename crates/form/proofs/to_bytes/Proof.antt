@@ -1,0 +1,33 @@
+use mathlib.Core.Path.{_≡_, ap, ap₂, _∙_}
+use Prim.Native.Nat.{ℕ}
+use Rattle.parts.specs.Parts.{lengthFor}
+use Rattle.parts.specs.declared.Parts.{Parts}
+use Rattle.form.specs.Form.{layWith, formOf, spelledOf}
+use Rattle.form.proofs.Typed.{instruction-fits}
+use Rattle.form.proofs.Form.{form-spelled}
+use borrow.Author.Needs.{needs}
+use Rattle.form.proofs.to_bytes.Statement.{statement}
+use Rattle.form.proofs.to_bytes.Tie as tie
+
+parts-of-requires : tie.Need-parts-of-requires
+parts-of-requires c κs = search needs
+
+length-of-requires : tie.Need-length-of-requires
+length-of-requires c κs = search needs
+
+cast-lay-out : tie.Need-cast-lay-out
+cast-lay-out c = search needs
+
+lay-out-requires : tie.Need-lay-out-requires
+lay-out-requires c κs = search needs
+
+returns : tie.Need-returns
+returns c =
+    let i = c .before .before .before .args .i in
+    let p = c .before .before .parts-of .ensures in
+    let e : c .lay-out .result ≡ formOf i = c .lay-out .ensures ∙ ap₂ layWith p (c .before .length-of .ensures .0 ∙ ap lengthFor p) in
+    (e, ap spelledOf e ∙ form-spelled i (instruction-fits i _ (c .before .before .before .good .0)))
+
+pub to-bytes-spec : {M : Type 1} → statement M
+to-bytes-spec =
+    tie.close (tie.spec parts-of-requires length-of-requires cast-lay-out lay-out-requires returns)

@@ -1,0 +1,41 @@
+use lib.Bits.{bitOr}
+use Rattle.isa.specs.Decode.{rowAt}
+use Rattle.isa.specs.Rows.{rows}
+use Rattle.writing.specs.Write.{ofBitfield, over}
+use Rattle.writing.proofs.Operands.{asD, asA, asB, asC}
+use borrow.Author.Needs.{needs}
+use Rattle.writing.proofs.word_bitfield.Statement.{statement}
+use Rattle.writing.proofs.word_bitfield.Tie as tie
+
+of-dst-requires : tie.Need-of-dst-requires
+of-dst-requires c κs = search needs
+
+of-src-requires : tie.Need-of-src-requires
+of-src-requires c κs = search needs
+
+of-src-requires-2 : tie.Need-of-src-requires-2
+of-src-requires-2 c κs = search needs
+
+of-src-requires-3 : tie.Need-of-src-requires-3
+of-src-requires-3 c κs = search needs
+
+cast-m : tie.Need-cast-m
+cast-m c = search needs
+
+returns : tie.Need-returns
+unfolding rows
+returns c =
+    let q = c .before .before .before .before .before .before .before .before .before .before .before .before .before .before in
+    let args = q .before .before .before .before .before .args in
+    λ i.
+    over (bitOr (args .x .kept) (args .fixed)) (rowAt 5 .fields)
+    (asD (q .before .before .before .of-dst .ensures i)
+    (asA (q .before .before .of-src .ensures i)
+    (asB (q .before .of-src2 .ensures i)
+    (asC (q .of-src3 .ensures i)
+    (ofBitfield (args .x))))))
+
+pub word-bitfield-spec : {M : Type 1} → statement M
+word-bitfield-spec =
+    tie.close
+    (tie.spec of-dst-requires of-src-requires of-src-requires-2 of-src-requires-3 cast-m returns)

@@ -1,0 +1,51 @@
+use mathlib.Core.List.{_∷_}
+use lib.Bits.{bitOr}
+use Rattle.isa.specs.Decode.{rowAt}
+use Rattle.isa.specs.Rows.{rows}
+use Rattle.writing.specs.Write.{ofCompare, over, _is_}
+use Rattle.writing.proofs.Operands.{asA, asB}
+use borrow.Author.Needs.{needs}
+use Rattle.writing.proofs.word_compare.Statement.{statement}
+use Rattle.writing.proofs.word_compare.Tie as tie
+
+of-src-requires : tie.Need-of-src-requires
+of-src-requires c κs = search needs
+
+of-src-requires-2 : tie.Need-of-src-requires-2
+of-src-requires-2 c κs = search needs
+
+cache-bit-requires : tie.Need-cache-bit-requires
+cache-bit-requires c κs = search needs
+
+cast-result : tie.Need-cast-result
+cast-result c = search needs
+
+cast-result-2 : tie.Need-cast-result-2
+cast-result-2 c = search needs
+
+cast-result-3 : tie.Need-cast-result-3
+cast-result-3 c = search needs
+
+returns : tie.Need-returns
+unfolding rows
+returns c =
+    let q = c .before .before .before .before .before .before .before .before .before in
+    let args = q .before .before .before .before .before .args in
+    λ i.
+    over (bitOr (args .x .kept) (args .fixed)) (rowAt 19 .fields)
+    ("Dt" is q .cache-bit .ensures .0 i
+    ∷ asA (q .before .before .before .of-src .ensures i)
+    (asB (q .before .before .of-src2 .ensures i)
+    (ofCompare (args .x))))
+
+pub word-compare-spec : {M : Type 1} → statement M
+word-compare-spec =
+    tie.close
+    (tie.spec
+    of-src-requires
+    of-src-requires-2
+    cache-bit-requires
+    cast-result
+    cast-result-2
+    cast-result-3
+    returns)

@@ -1,0 +1,15 @@
+use Rattle.isa.specs.Rows.{rows}
+use Rattle.writing.specs.Write.{wordFor, fieldsFor, keptOf}
+use borrow.Author.Needs.{needs}
+use Rattle.writing.proofs.word_get_sr.Statement.{statement}
+use Rattle.writing.proofs.word_get_sr.Tie as tie
+
+of-dst-requires : tie.Need-of-dst-requires
+of-dst-requires c κs = search needs
+
+returns : tie.Need-returns
+unfolding rows wordFor fieldsFor keptOf
+returns c = rw (c .before .before .before .of-dst .ensures)
+
+pub word-get-sr-spec : {M : Type 1} → statement M
+word-get-sr-spec = tie.close (tie.spec of-dst-requires returns)

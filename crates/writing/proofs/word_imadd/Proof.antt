@@ -1,0 +1,39 @@
+use Rattle.isa.specs.Decode.{rowAt}
+use Rattle.isa.specs.Rows.{rows}
+use Rattle.isa.specs.declared.instruction.Instruction.{Instruction}
+use Rattle.writing.specs.Write.{wordFor, wordBy, fieldsFor, keptOf}
+use Rattle.writing.proofs.Operands.{asD, asA, asB, asC}
+use borrow.Author.Needs.{needs}
+use Rattle.writing.proofs.word_imadd.Statement.{statement}
+use Rattle.writing.proofs.word_imadd.Tie as tie
+
+of-dst-requires : tie.Need-of-dst-requires
+of-dst-requires c κs = search needs
+
+of-src-requires : tie.Need-of-src-requires
+of-src-requires c κs = search needs
+
+of-src-requires-2 : tie.Need-of-src-requires-2
+of-src-requires-2 c κs = search needs
+
+of-src-requires-3 : tie.Need-of-src-requires-3
+of-src-requires-3 c κs = search needs
+
+returns : tie.Need-returns
+unfolding rows wordFor fieldsFor keptOf
+returns c =
+    let q = c .before .before .before .before .before .before .before .before .before .before .before .before in
+    let args = q .before .before .before .before .args in
+    λ i.
+    wordBy (rowAt 4)
+    (asD (q .before .before .before .of-dst .ensures i)
+    (asA (q .before .before .of-src .ensures i)
+    (asB (q .before .of-src2 .ensures i)
+    (asC (q .of-src3 .ensures i)
+    (fieldsFor (Instruction.Imadd (args .o) (args .s) (args .n) (args .sa) (args .sb) (args .sc) (args .shift) (args .kept)))))))
+    (args .kept)
+
+pub word-imadd-spec : {M : Type 1} → statement M
+word-imadd-spec =
+    tie.close
+    (tie.spec of-dst-requires of-src-requires of-src-requires-2 of-src-requires-3 returns)

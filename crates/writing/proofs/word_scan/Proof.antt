@@ -1,0 +1,29 @@
+use mathlib.Core.List.{[]}
+use lib.Bits.{bitOr}
+use Rattle.isa.specs.Decode.{rowAt}
+use Rattle.isa.specs.Rows.{rows}
+use Rattle.writing.specs.Write.{ofUnary, over}
+use Rattle.writing.proofs.Operands.{asD, asA}
+use borrow.Author.Needs.{needs}
+use Rattle.writing.proofs.word_scan.Statement.{statement}
+use Rattle.writing.proofs.word_scan.Tie as tie
+
+of-dst-requires : tie.Need-of-dst-requires
+of-dst-requires c κs = search needs
+
+of-src-requires : tie.Need-of-src-requires
+of-src-requires c κs = search needs
+
+returns : tie.Need-returns
+unfolding rows
+returns c =
+    let q = c .before .before .before .before .before .before .before in
+    let args = q .before .before .before .args in
+    λ i.
+    over (bitOr (args .x .kept) (args .fixed)) (rowAt 13 .fields)
+    (asD (q .before .of-dst .ensures i)
+    (asA (q .of-src .ensures i)
+    (ofUnary (args .x .operands) [])))
+
+pub word-scan-spec : {M : Type 1} → statement M
+word-scan-spec = tie.close (tie.spec of-dst-requires of-src-requires returns)

@@ -1,0 +1,33 @@
+use mathlib.Core.List.{[]}
+use lib.Bits.{bitOr}
+use Rattle.isa.specs.Decode.{rowAt}
+use Rattle.isa.specs.Rows.{rows}
+use Rattle.writing.specs.Write.{ofBinary, over}
+use Rattle.writing.proofs.Operands.{asD, asA, asB}
+use borrow.Author.Needs.{needs}
+use Rattle.writing.proofs.word_shift.Statement.{statement}
+use Rattle.writing.proofs.word_shift.Tie as tie
+
+of-dst-requires : tie.Need-of-dst-requires
+of-dst-requires c κs = search needs
+
+of-src-requires : tie.Need-of-src-requires
+of-src-requires c κs = search needs
+
+of-src-requires-2 : tie.Need-of-src-requires-2
+of-src-requires-2 c κs = search needs
+
+returns : tie.Need-returns
+unfolding rows
+returns c =
+    let q = c .before .before .before .before .before .before .before .before .before .before in
+    let args = q .before .before .before .before .args in
+    λ i.
+    over (bitOr (args .x .kept) (args .fixed)) (rowAt 10 .fields)
+    (asD (q .before .before .of-dst .ensures i)
+    (asA (q .before .of-src .ensures i)
+    (asB (q .of-src2 .ensures i)
+    (ofBinary (args .x .operands) []))))
+
+pub word-shift-spec : {M : Type 1} → statement M
+word-shift-spec = tie.close (tie.spec of-dst-requires of-src-requires of-src-requires-2 returns)
