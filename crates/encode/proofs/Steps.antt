@@ -2,25 +2,24 @@
 use mathlib.Core.Path.{_≡_, refl, sym, ap, ap₂, _∙_}
 use mathlib.Core.Bool.{Bool, true, false}
 use mathlib.Core.List.{List, _++_}
-use Prim.Native.Nat.{ℕ, _+_, _≤_, _<_}
+use Prim.Native.Nat.{ℕ, _+_, _≤_, zero-le, _<_}
 use native.Mathlib.Nat.{zero-add, le-of-suc-le-suc}
 use native.Mathlib.Numerals.{add-one}
 use native.Mathlib.Omega.{arith}
-use lib.Dec.{leb}
+use lib.Dec.{leb, lit<}
 use lib.ListN.{length, getD, take, drop, set}
 use lib.Seq.{take-length, paste, paste-suc}
-use borrow.Author.Tests.{eq-eqb, ne-eqb, le-leb, lt-leb}
+use borrow.Author.Tests.{eq-eqb, ne-eqb, leb-true}
 use Rattle.bits.specs.Word.{bytesOf}
 use Rattle.bits.proofs.Laws.{length-bytesOf, take-bytes}
 use Rattle.isa.specs.Decode.{decodeOf}
-use Rattle.isa.specs.declared.answer.Refusal.{Refusal}
 use Rattle.isa.specs.declared.answer.Decoded.{Decoded}
 use Rattle.isa.specs.declared.answer.Encoded.{Encoded}
 use Rattle.isa.specs.declared.instruction.Instruction.{Instruction}
 use Rattle.parts.specs.Parts.{partsOf, lengthFor, same}
 use Rattle.parts.specs.declared.Parts.{Parts}
 use Rattle.writing.specs.Write.{wordFor}
-use Rattle.encode.specs.Encode.{lengthOf, bytesFor, isFound, accepts, encodedOf, leftBy}
+use Rattle.encode.specs.Encode.{lengthOf, bytesFor, isFound, accepts, answerBy, countOf, encodedOf, leftBy}
 
 pub paste-more : (d s out : List ℕ) (j : ℕ) → out ≡ paste d 0 s j → j < length d → j < length s → set out j (getD s j 0) ≡ paste d 0 s (j + 1)
 paste-more d s out j e h g =
@@ -53,27 +52,36 @@ module _ (i : Instruction) (p : Parts) (n w : ℕ) (bs : List ℕ) (d : Decoded)
   unfolding accepts
   test = et ∙ ap₂ (λ (y : Decoded) (k : ℕ). isFound y i k) (ed ∙ ap decodeOf bytes) en
 
-  pub wrote : (out last : List ℕ) → t ≡ true → n ≤ length out → last ≡ paste out 0 (take n bs) (length (take n bs))
-      → (Encoded.Wrote n ≡ encodedOf i out) × (last ≡ leftBy i out)
-  unfolding encodedOf leftBy
-  wrote out last e h l =
-      let a : accepts i ≡ true = sym test ∙ e in
-      let k : leb (lengthOf i) (length out) ≡ true = rw (← en) (le-leb n (length out) h) in
-      let z : length (take n bs) ≡ lengthOf i = length-eight n w bs eb hn ∙ en in
-      let p : paste out 0 (take n bs) (length (take n bs)) ≡ bytesFor i ++ drop (lengthOf i) out =
-            ap₂ (λ (u v : List ℕ). u ++ v) (take-length (take n bs) ∙ bytes) (ap (λ (q : ℕ). drop q out) (zero-add (length (take n bs)) ∙ z)) in
-      (rw (a, k) (ap Encoded.Wrote en), rw (a, k) (l ∙ p))
+  -- at most as many bytes are written as there are, and as there is room for
+  pub count-small : (room k : ℕ) (a : Encoded) → a ≡ answerBy t n room → k ≡ countOf a → (k < 9) × (k ≤ room)
+  count-small room k a ea ek = go t (leb n room) refl (ek ∙ ap countOf ea)
+    where
+      go : (u b : Bool) → leb n room ≡ b → k ≡ countOf (answerBy u n room) → (k < 9) × (k ≤ room)
+      go true true z e =
+          let f : k ≡ n = rw z at e in
+          (rw f hn, rw f (leb-true n room z))
+      go true false z e = let f : k ≡ 0 = rw z at e in (rw f (lit< tt), rw f zero-le)
+      go false b z e = (rw e (lit< tt), rw e zero-le)
 
-  pub short : (out : List ℕ) → t ≡ true → length out < n
-      → (Encoded.Refused Refusal.ShortBuffer ≡ encodedOf i out) × (out ≡ leftBy i out)
-  unfolding encodedOf leftBy
-  short out e h =
-      let a : accepts i ≡ true = sym test ∙ e in
-      let k : leb (lengthOf i) (length out) ≡ false = rw (← en) (lt-leb n (length out) h) in
-      (rw (a, k), rw (a, k))
+  pub answered : (out : List ℕ) (a : Encoded) → a ≡ answerBy t n (length out) → a ≡ encodedOf i out
+  unfolding encodedOf
+  answered out a e = e ∙ ap₂ (λ (u : Bool) (m : ℕ). answerBy u m (length out)) test en
 
-  pub refused : (out : List ℕ) → t ≡ false → (Encoded.Refused Refusal.NoEncoding ≡ encodedOf i out) × (out ≡ leftBy i out)
-  unfolding encodedOf leftBy
-  refused out e =
-      let a : accepts i ≡ false = sym test ∙ e in
-      (rw a, rw a)
+  pub left : (out last : List ℕ) (k : ℕ) (a : Encoded) → a ≡ answerBy t n (length out) → k ≡ countOf a
+      → last ≡ paste out 0 (take k bs) (length (take k bs)) → last ≡ leftBy i out
+  unfolding leftBy
+  left out last k a ea ek l = go t test (leb n (length out)) refl (ek ∙ ap countOf ea)
+    where
+      go : (u : Bool) → u ≡ accepts i → (b : Bool) → leb n (length out) ≡ b → k ≡ countOf (answerBy u n (length out)) → last ≡ leftBy i out
+      go true eu true z e =
+          let f : k ≡ n = rw z at e in
+          let y : leb (lengthOf i) (length out) ≡ true = ap (λ (m : ℕ). leb m (length out)) (sym en) ∙ z in
+          let j : length (take n bs) ≡ lengthOf i = length-eight n w bs eb hn ∙ en in
+          let q : paste out 0 (take n bs) (length (take n bs)) ≡ bytesFor i ++ drop (lengthOf i) out =
+                ap₂ (λ (u v : List ℕ). u ++ v) (take-length (take n bs) ∙ bytes) (ap (λ (m : ℕ). drop m out) (zero-add (length (take n bs)) ∙ j)) in
+          rw (← eu, y) (l ∙ ap (λ (m : ℕ). paste out 0 (take m bs) (length (take m bs))) f ∙ q)
+      go true eu false z e =
+          let f : k ≡ 0 = rw z at e in
+          let y : leb (lengthOf i) (length out) ≡ false = ap (λ (m : ℕ). leb m (length out)) (sym en) ∙ z in
+          rw (← eu, y) (l ∙ ap (λ (m : ℕ). paste out 0 (take m bs) (length (take m bs))) f)
+      go false eu b z e = rw (← eu) (l ∙ ap (λ (m : ℕ). paste out 0 (take m bs) (length (take m bs))) e)

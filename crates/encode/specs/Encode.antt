@@ -32,11 +32,18 @@ isFound (Decoded.Refused r) i n = false
 unfoldable pub accepts : Instruction → Bool
 accepts i = isFound (decodeOf (bytesFor i)) i (lengthOf i)
 
+-- 8 before 9
+abbrev pub answerBy : Bool → ℕ → ℕ → Encoded
+answerBy accepted n room =
+    cond accepted (cond (leb n room) (Encoded.Wrote n) (Encoded.Refused Refusal.ShortBuffer)) (Encoded.Refused Refusal.NoEncoding)
+
+-- the number of bytes written
+abbrev pub countOf : Encoded → ℕ
+countOf (Encoded.Wrote n) = n
+countOf (Encoded.Refused r) = 0
+
 unfoldable pub encodedOf : Instruction → List ℕ → Encoded
-encodedOf i out =
-    cond (accepts i)
-    (cond (leb (lengthOf i) (length out)) (Encoded.Wrote (lengthOf i)) (Encoded.Refused Refusal.ShortBuffer))
-    (Encoded.Refused Refusal.NoEncoding)
+encodedOf i out = answerBy (accepts i) (lengthOf i) (length out)
 
 -- the encoding's bytes and none after them
 unfoldable pub leftBy : Instruction → List ℕ → List ℕ

@@ -3,7 +3,7 @@ ghost use mathlib.Core.Path.{_≡_};
 ghost use Prim.Native.Nat.{_≤_};
 ghost use lib.ListN.{length};
 ghost use lib.Seq.{paste};
-ghost use Rattle.encode.specs.Encode.{isFound, encodedOf, leftBy, encodedFrom, leftFrom};
+ghost use Rattle.encode.specs.Encode.{isFound, answerBy, countOf, encodedOf, leftBy, encodedFrom, leftFrom};
 
 use form::Spelled;
 use isa::answer::Decoded;
@@ -37,20 +37,39 @@ fn copy(out: &mut [u8], src: &[u8])
     }
 }
 
+// 8 before 9.
+fn answer(accepted: bool, n: usize, room: usize) -> Encoded
+    ensures { λ r. ⌜ r ≡ answerBy accepted n room ⌝ }
+{
+    if accepted {
+        if n <= room {
+            return Encoded::Wrote(n);
+        }
+        return Encoded::Refused(Refusal::ShortBuffer);
+    }
+    Encoded::Refused(Refusal::NoEncoding)
+}
+
+// How many bytes are written under an answer.
+fn written(a: Encoded) -> usize
+    ensures { λ r. ⌜ r ≡ countOf a ⌝ }
+{
+    match a {
+        Encoded::Wrote(n) => n,
+        Encoded::Refused(_) => 0,
+    }
+}
+
 // Writes the instruction's bytes at the start of the buffer, and answers their number. Refused, it writes nothing.
 pub fn encode(i: Instruction, out: &mut [u8]) -> Encoded
     ensures { λ r. ⌜ (r ≡ encodedOf i (now (out .entry))) × (now (out .exit) ≡ leftBy i (now (out .entry))) ⌝ }
 {
     let n = parts::length_of(parts::parts_of(i));
     let b = bits::bytes_of(writing::word_for(i));
-    if is_found(decode::decode(&b[..n]), i, n) {
-        if n <= out.len() {
-            copy(out, &b[..n]);
-            return Encoded::Wrote(n);
-        }
-        return Encoded::Refused(Refusal::ShortBuffer);
-    }
-    Encoded::Refused(Refusal::NoEncoding)
+    let a = answer(is_found(decode::decode(&b[..n]), i, n), n, out.len());
+    let k = written(a);
+    copy(out, &b[..k]);
+    a
 }
 
 // The same, of an instruction in its byte form.

@@ -29,7 +29,8 @@ abbrev hintBack : ℕ → Hint
 hintBack n = getD (Hint.None ∷ Hint.Cache ∷ []) n Hint.Discard
 
 abbrev destinationBack : Slot → Destination
-destinationBack s = getD (Destination.Half (s .number) ∷ Destination.Register (s .number) ∷ []) (s .kind - 1) (Destination.Pair (s .number))
+destinationBack s =
+    getD (Destination.Half (s .number) ∷ Destination.Register (s .number) ∷ []) (s .kind - 1) (Destination.Pair (s .number))
 
 abbrev sourceBack : Slot → Source
 sourceBack s =
@@ -52,7 +53,8 @@ hint-back Hint.Discard = refl
 dst-back : (d : Dst) → dstBack (dstSlot d) ≡ d
 dst-back d = go (d .destination) ∙ ap (λ (h : Hint). record { destination = d .destination; hint = h }) (hint-back (d .hint))
   where
-    go : (x : Destination) → dstBack (destinationSlot x (hintNumber (d .hint))) ≡ record { destination = x; hint = hintBack (hintNumber (d .hint)) }
+    go : (x : Destination) → dstBack (destinationSlot x (hintNumber (d .hint)))
+        ≡ record { destination = x; hint = hintBack (hintNumber (d .hint)) }
     go (Destination.Half x) = refl
     go (Destination.Register x) = refl
     go (Destination.Pair x) = refl
@@ -60,7 +62,8 @@ dst-back d = go (d .destination) ∙ ap (λ (h : Hint). record { destination = d
 src-back : (s : Src) → srcBack (srcSlot s) ≡ s
 src-back s = go (s .source) ∙ ap (λ (h : Hint). record { source = s .source; hint = h }) (hint-back (s .hint))
   where
-    go : (x : Source) → srcBack (sourceSlot x (hintNumber (s .hint))) ≡ record { source = x; hint = hintBack (hintNumber (s .hint)) }
+    go : (x : Source) → srcBack (sourceSlot x (hintNumber (s .hint)))
+        ≡ record { source = x; hint = hintBack (hintNumber (s .hint)) }
     go (Source.Half x) = refl
     go (Source.Register x) = refl
     go (Source.Pair x) = refl
@@ -69,7 +72,7 @@ src-back s = go (s .source) ∙ ap (λ (h : Hint). record { source = s .source; 
     go (Source.UniformPair x) = refl
     go (Source.Immediate x) = refl
 
--- ---- instructions
+-- ---- instructions, from the parts that they have
 
 abbrev unaryBack : Parts → Unary
 unaryBack p = record { d = dstBack (p .d); a = srcBack (p .a) }
@@ -100,14 +103,15 @@ compareBack p =
       kept = p .kept
     }
 
-abbrev back : Parts → Instruction
+abbrev pub back : Parts → Instruction
 back p =
     getD
     (Instruction.Mov16 (dstBack (p .d)) (p .immediate) (p .l) (p .kept)
       ∷ Instruction.Mov32 (dstBack (p .d)) (p .immediate) (p .l) (p .kept)
       ∷ Instruction.GetSr (dstBack (p .d)) (p .immediate) (p .kept)
       ∷ Instruction.Iadd (binaryBack p) (p .signs .saturate) (p .signs .negate) (p .signs .sa) (p .signs .sb) (p .signs .shift) (p .kept)
-      ∷ Instruction.Imadd (ternaryBack p) (p .signs .saturate) (p .signs .negate) (p .signs .sa) (p .signs .sb) (p .signs .sc) (p .signs .shift) (p .kept)
+      ∷ Instruction.Imadd (ternaryBack p) (p .signs .saturate) (p .signs .negate) (p .signs .sa) (p .signs .sb) (p .signs .sc)
+        (p .signs .shift) (p .kept)
       ∷ Instruction.Bfi (bitfieldBack p)
       ∷ Instruction.Bfeil (bitfieldBack p)
       ∷ Instruction.Extr (bitfieldBack p)
@@ -187,7 +191,9 @@ numbers-back p q e = ap partsAt e
 
 pub same-is : (i j : Instruction) → same i j ≡ true → i ≡ j
 same-is i j e =
-    sym (parts-back i) ∙ ap back (numbers-back (partsOf i) (partsOf j) (eqList-is (numbersOf (partsOf i)) (numbersOf (partsOf j)) e)) ∙ parts-back j
+    sym (parts-back i)
+    ∙ ap back (numbers-back (partsOf i) (partsOf j) (eqList-is (numbersOf (partsOf i)) (numbersOf (partsOf j)) e))
+    ∙ parts-back j
 
 pub same-self : (i : Instruction) → same i i ≡ true
 same-self i = eqList-self (numbersOf (partsOf i))

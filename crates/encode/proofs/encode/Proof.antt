@@ -1,7 +1,8 @@
 use mathlib.Core.Path.{sym}
 use native.Mathlib.Omega.{arith}
+use lib.ListN.{length}
 use borrow.Author.Needs.{needs}
-use Rattle.encode.proofs.Steps.{length-eight, wrote, short, refused}
+use Rattle.encode.proofs.Steps.{length-eight, count-small, answered, left}
 use Rattle.encode.proofs.encode.Statement.{statement}
 use Rattle.encode.proofs.encode.Tie as tie
 
@@ -21,8 +22,7 @@ array-share-prefix-b : tie.Need-array-share-prefix-b
 array-share-prefix-b c = search needs
 
 slice-aggregate-decode : tie.Need-slice-aggregate-decode
-slice-aggregate-decode c =
-    sym (length-eight _ _ _ (c .before .bytes-of .ensures) (c .before .before .before .length-of .ensures .1))
+slice-aggregate-decode c = sym (length-eight _ _ _ (c .before .bytes-of .ensures) (c .before .before .before .length-of .ensures .1))
 
 decode-requires : tie.Need-decode-requires
 decode-requires c κs = search needs
@@ -30,34 +30,47 @@ decode-requires c κs = search needs
 is-found-requires : tie.Need-is-found-requires
 is-found-requires c κs = search needs
 
+answer-requires : tie.Need-answer-requires
+answer-requires c κs = search needs
+
+written-requires : tie.Need-written-requires
+written-requires c κs = search needs
+
 array-share-prefix-b-2 : tie.Need-array-share-prefix-b-2
-array-share-prefix-b-2 c = search needs
+array-share-prefix-b-2 c =
+    let s =
+          count-small (c .before .before .before .before .before .before .before .before .before .before .before .args .i) _ _ _ _ _ _ (c .before .before .before .before .before .before .before .before .before .parts-of .ensures) (c .before .before .before .before .before .before .before .before .length-of .ensures) (c .before .before .before .before .before .before .before .word-for .ensures) (c .before .before .before .before .before .before .bytes-of .ensures)
+    (c .before .before .before .before .decode .ensures) (c .before .before .before .is-found .ensures)
+    (length (c .before .before .before .before .before .before .before .before .before .before .before .args .out .now)) _ _ (c .before .before .answer .ensures) (c .before .written .ensures) in
+    omega arith
 
 slice-aggregate-copy : tie.Need-slice-aggregate-copy
 slice-aggregate-copy c =
-    sym (length-eight _ _ _ (c .before .before .before .before .before .before .before .bytes-of .ensures) (c .before .before .before .before .before .before .before .before .before .length-of .ensures .1))
+    let s =
+          count-small (c .before .before .before .before .before .before .before .before .before .before .before .before .args .i) _ _ _ _ _ _ (c .before .before .before .before .before .before .before .before .before .before .parts-of .ensures) (c .before .before .before .before .before .before .before .before .before .length-of .ensures) (c .before .before .before .before .before .before .before .before .word-for .ensures) (c .before .before .before .before .before .before .before .bytes-of .ensures)
+    (c .before .before .before .before .before .decode .ensures) (c .before .before .before .before .is-found .ensures)
+    (length (c .before .before .before .before .before .before .before .before .before .before .before .before .args .out .now)) _ _ (c .before .before .before .answer .ensures) (c .before .before .written .ensures) in
+    sym (length-eight _ _ _ (c .before .before .before .before .before .before .before .bytes-of .ensures) (s .0))
 
 copy-requires : tie.Need-copy-requires
 copy-requires c κs =
-    rw (length-eight _ _ _ (c .before .before .before .before .before .before .before .bytes-of .ensures) (c .before .before .before .before .before .before .before .before .before .length-of .ensures .1)) (omega arith)
+    let s =
+          count-small (c .before .before .before .before .before .before .before .before .before .before .before .before .args .i) _ _ _ _ _ _ (c .before .before .before .before .before .before .before .before .before .before .parts-of .ensures) (c .before .before .before .before .before .before .before .before .before .length-of .ensures) (c .before .before .before .before .before .before .before .before .word-for .ensures) (c .before .before .before .before .before .before .before .bytes-of .ensures)
+    (c .before .before .before .before .before .decode .ensures) (c .before .before .before .before .is-found .ensures)
+    (length (c .before .before .before .before .before .before .before .before .before .before .before .before .args .out .now)) _ _ (c .before .before .before .answer .ensures) (c .before .before .written .ensures) in
+    rw (length-eight _ _ _ (c .before .before .before .before .before .before .before .bytes-of .ensures) (s .0)) (s .1)
 
 same-length : tie.Need-same-length
 same-length c = search needs
 
 returns : tie.Need-returns
 returns c =
-    wrote (c .before .before .before .before .before .before .before .before .before .before .before .before .before .before .before .args .i) _ _ _ _ _ _ (c .before .before .before .before .before .before .before .before .before .before .before .before .before .parts-of .ensures) (c .before .before .before .before .before .before .before .before .before .before .before .before .length-of .ensures) (c .before .before .before .before .before .before .before .before .before .before .before .word-for .ensures) (c .before .before .before .before .before .before .before .before .before .before .bytes-of .ensures) (c .before .before .before .before .before .before .before .before .decode .ensures) (c .before .before .before .before .before .before .before .is-found .ensures)
-    (c .before .before .before .before .before .before .before .before .before .before .before .before .before .before .before .args .out .now) _ (c .before .before .before .before .before .before .if1 .taken) (c .before .before .before .before .before .if2 .taken) (c .before .before .copy .ensures)
-
-returns-2 : tie.Need-returns-2
-returns-2 c =
-    short (c .before .before .before .before .before .before .before .before .before .before .args .i) _ _ _ _ _ _ (c .before .before .before .before .before .before .before .before .parts-of .ensures) (c .before .before .before .before .before .before .before .length-of .ensures) (c .before .before .before .before .before .before .word-for .ensures) (c .before .before .before .before .before .bytes-of .ensures) (c .before .before .before .decode .ensures) (c .before .before .is-found .ensures)
-    (c .before .before .before .before .before .before .before .before .before .before .args .out .now) (c .before .if1 .taken) (c .if2 .left)
-
-returns-3 : tie.Need-returns-3
-returns-3 c =
-    refused (c .before .before .before .before .before .before .before .before .before .args .i) _ _ _ _ _ _ (c .before .before .before .before .before .before .before .parts-of .ensures) (c .before .before .before .before .before .before .length-of .ensures) (c .before .before .before .before .before .word-for .ensures) (c .before .before .before .before .bytes-of .ensures) (c .before .before .decode .ensures) (c .before .is-found .ensures)
-    (c .before .before .before .before .before .before .before .before .before .args .out .now) (c .if1 .left)
+    (answered (c .before .before .before .before .before .before .before .before .before .before .before .before .before .before .before .args .i) _ _ _ _ _ _ (c .before .before .before .before .before .before .before .before .before .before .before .before .before .parts-of .ensures) (c .before .before .before .before .before .before .before .before .before .before .before .before .length-of .ensures) (c .before .before .before .before .before .before .before .before .before .before .before .word-for .ensures) (c .before .before .before .before .before .before .before .before .before .before .bytes-of .ensures)
+    (c .before .before .before .before .before .before .before .before .decode .ensures) (c .before .before .before .before .before .before .before .is-found .ensures)
+      (c .before .before .before .before .before .before .before .before .before .before .before .before .before .before .before .args .out .now) _ (c .before .before .before .before .before .before .answer .ensures),
+      left (c .before .before .before .before .before .before .before .before .before .before .before .before .before .before .before .args .i) _ _ _ _ _ _ (c .before .before .before .before .before .before .before .before .before .before .before .before .before .parts-of .ensures) (c .before .before .before .before .before .before .before .before .before .before .before .before .length-of .ensures) (c .before .before .before .before .before .before .before .before .before .before .before .word-for .ensures) (c .before .before .before .before .before .before .before .before .before .before .bytes-of .ensures)
+    (c .before .before .before .before .before .before .before .before .decode .ensures) (c .before .before .before .before .before .before .before .is-found .ensures)
+      (c .before .before .before .before .before .before .before .before .before .before .before .before .before .before .before .args .out .now) _ _ _ (c .before .before .before .before .before .before .answer .ensures) (c .before .before .before .before .before .written .ensures) (c .before .before .copy .ensures))
 
 pub encode-spec : {M : Type 1} → statement M
 encode-spec =
@@ -71,10 +84,10 @@ encode-spec =
     slice-aggregate-decode
     decode-requires
     is-found-requires
+    answer-requires
+    written-requires
     array-share-prefix-b-2
     slice-aggregate-copy
     copy-requires
     same-length
-    returns
-    returns-2
-    returns-3)
+    returns)

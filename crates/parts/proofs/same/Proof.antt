@@ -15,7 +15,9 @@ same-parts-requires : tie.Need-same-parts-requires
 same-parts-requires c κs = search needs
 
 returns : tie.Need-returns
-returns c = c .same-parts .ensures ∙ ap₂ (λ (p q : Parts). eqList (numbersOf p) (numbersOf q)) (c .before .before .parts-of .ensures) (c .before .parts-of2 .ensures)
+returns c =
+    c .same-parts .ensures
+    ∙ ap₂ (λ (p q : Parts). eqList (numbersOf p) (numbersOf q)) (c .before .before .parts-of .ensures) (c .before .parts-of2 .ensures)
 
 pub same-spec : {M : Type 1} → statement M
 same-spec = tie.close (tie.spec parts-of-requires parts-of-requires-2 same-parts-requires returns)

@@ -15,7 +15,10 @@ src-slot-requires-2 : tie.Need-src-slot-requires-2
 src-slot-requires-2 c κs = search needs
 
 returns : tie.Need-returns
-returns c = rw (c .src-slot2 .ensures, c .before .src-slot .ensures, c .before .before .dst-slot .ensures, c .before .before .before .bare .ensures)
+returns c =
+    rw
+    (c .src-slot2 .ensures, c .before .src-slot .ensures,
+      c .before .before .dst-slot .ensures, c .before .before .before .bare .ensures)
 
 pub of-binary-spec : {M : Type 1} → statement M
 of-binary-spec =

@@ -18,7 +18,10 @@ src-slot-requires-3 : tie.Need-src-slot-requires-3
 src-slot-requires-3 c κs = search needs
 
 returns : tie.Need-returns
-returns c = rw (c .src-slot3 .ensures, c .before .src-slot2 .ensures, c .before .before .src-slot .ensures, c .before .before .before .dst-slot .ensures, c .before .before .before .before .bare .ensures)
+returns c =
+    rw
+    (c .src-slot3 .ensures, c .before .src-slot2 .ensures, c .before .before .src-slot .ensures,
+      c .before .before .before .dst-slot .ensures, c .before .before .before .before .bare .ensures)
 
 pub of-ternary-spec : {M : Type 1} → statement M
 of-ternary-spec =

@@ -1,5 +1,6 @@
+-- Each cast widens, by the type of the field that it is of.
+use mathlib.Core.Path.{refl}
 use native.Mathlib.Omega.{arith}
-use borrow.Author.Needs.{needs}
 use Rattle.parts.proofs.compare.numbers.Statement.{statement}
 use Rattle.parts.proofs.compare.numbers.Tie as tie
 
@@ -91,7 +92,7 @@ cast-t30 : tie.Need-cast-t30
 cast-t30 c = omega (arith, c .struct-known29 .given)
 
 returns : tie.Need-returns
-returns c = search needs
+returns c = refl
 
 pub numbers-spec : {M : Type 1} → statement M
 numbers-spec =

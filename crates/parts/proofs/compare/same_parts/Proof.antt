@@ -20,7 +20,9 @@ equal-requires : tie.Need-equal-requires
 equal-requires c κs = search needs
 
 returns : tie.Need-returns
-returns c = c .equal .ensures ∙ ap₂ eqList (c .before .before .before .before .numbers .ensures) (c .before .before .before .numbers2 .ensures)
+returns c =
+    c .equal .ensures
+    ∙ ap₂ eqList (c .before .before .before .before .numbers .ensures) (c .before .before .before .numbers2 .ensures)
 
 pub same-parts-spec : {M : Type 1} → statement M
 same-parts-spec =
