@@ -1,0 +1,1 @@
+// A kernel, decoded and encoded again.
