@@ -19,8 +19,10 @@ use Rattle.isa.specs.declared.instruction.Compare.{Compare}
 use Rattle.isa.specs.declared.instruction.Instruction.{Instruction}
 use Rattle.parts.specs.Parts.{hintNumber, dstSlot, srcSlot, ofBitfield, ofShift, ofScan, ofCompare, partsOf}
 use Rattle.parts.specs.declared.Slot.{Slot}
-use Rattle.form.specs.Form.{layOut, formOf, hintFrom, destinationFrom, sourceFrom, bitfieldFrom, shiftFrom, scanFrom, compareFrom, instructionFrom}
-use Rattle.form.specs.Fits.{U16, FitsDestination, FitsSource, FitsUnary, FitsBinary, FitsTernary, FitsBitfield, FitsShift, FitsScan, FitsCompare, Fits}
+use Rattle.form.specs.Form.{layOut, formOf, hintFrom, destinationFrom, sourceFrom}
+use Rattle.form.specs.Form.{bitfieldFrom, shiftFrom, scanFrom, compareFrom, instructionFrom}
+use Rattle.form.specs.Fits.{U16, FitsDestination, FitsSource, FitsUnary, FitsBinary, FitsTernary}
+use Rattle.form.specs.Fits.{FitsBitfield, FitsShift, FitsScan, FitsCompare, Fits}
 
 -- ---- numbers
 
@@ -42,9 +44,12 @@ hint-back Hint.Discard = refl
 
 destination-back : (d : Destination) (h : Hint) → FitsDestination d
     → dstOf (dstSlot (record { destination = d; hint = h })) ≡ record { destination = d; hint = h }
-destination-back (Destination.Half x) h f = λ j. record { destination = Destination.Half (mod-eq-of-lt f j); hint = hint-back h j }
-destination-back (Destination.Register r) h f = λ j. record { destination = Destination.Register (mod-eq-of-lt f j); hint = hint-back h j }
-destination-back (Destination.Pair r) h f = λ j. record { destination = Destination.Pair (mod-eq-of-lt f j); hint = hint-back h j }
+destination-back (Destination.Half x) h f =
+    λ j. record { destination = Destination.Half (mod-eq-of-lt f j); hint = hint-back h j }
+destination-back (Destination.Register r) h f =
+    λ j. record { destination = Destination.Register (mod-eq-of-lt f j); hint = hint-back h j }
+destination-back (Destination.Pair r) h f =
+    λ j. record { destination = Destination.Pair (mod-eq-of-lt f j); hint = hint-back h j }
 
 dst-back : (d : Dst) → FitsDestination (d .destination) → dstOf (dstSlot d) ≡ d
 dst-back d = destination-back (d .destination) (d .hint)
@@ -55,7 +60,8 @@ source-back (Source.Half x) h f = λ j. record { source = Source.Half (mod-eq-of
 source-back (Source.Register r) h f = λ j. record { source = Source.Register (mod-eq-of-lt f j); hint = hint-back h j }
 source-back (Source.Pair r) h f = λ j. record { source = Source.Pair (mod-eq-of-lt f j); hint = hint-back h j }
 source-back (Source.UniformHalf x) h f = λ j. record { source = Source.UniformHalf (half-back x f j); hint = hint-back h j }
-source-back (Source.UniformRegister r) h f = λ j. record { source = Source.UniformRegister (mod-eq-of-lt f j); hint = hint-back h j }
+source-back (Source.UniformRegister r) h f =
+    λ j. record { source = Source.UniformRegister (mod-eq-of-lt f j); hint = hint-back h j }
 source-back (Source.UniformPair r) h f = λ j. record { source = Source.UniformPair (mod-eq-of-lt f j); hint = hint-back h j }
 source-back (Source.Immediate x) h f = λ j. record { source = Source.Immediate (mod-eq-of-lt f j); hint = hint-back h j }
 
@@ -72,7 +78,9 @@ binary-back o f = λ j. record { d = dst-back (o .d) (f .0) j; a = src-back (o .
 ternary-back : (o : Ternary) → FitsTernary o
     → record { d = dstOf (dstSlot (o .d)); a = srcOf (srcSlot (o .a)); b = srcOf (srcSlot (o .b)); c = srcOf (srcSlot (o .c)) } ≡ o
 ternary-back o f =
-    λ j. record { d = dst-back (o .d) (f .0) j; a = src-back (o .a) (f .1) j; b = src-back (o .b) (f .2) j; c = src-back (o .c) (f .3) j }
+    λ j. record {
+      d = dst-back (o .d) (f .0) j; a = src-back (o .a) (f .1) j; b = src-back (o .b) (f .2) j; c = src-back (o .c) (f .3) j
+    }
 
 bitfield-back : (x : Bitfield) → FitsBitfield x → bitfieldFrom (layOut (ofBitfield 0 x)) ≡ x
 bitfield-back x f = λ j. record { operands = ternary-back (x .operands) (f .0) j; m = x .m; kept = le-bytes 8 (x .kept) (f .2) j }
@@ -95,11 +103,16 @@ compare-back x f =
 
 pub instruction-back : (i : Instruction) → Fits i → instructionFrom (partsOf i .kind) (formOf i) ≡ i
 unfolding partsOf instructionFrom
-instruction-back (Instruction.Mov16 d imm l kept) f = λ j. Instruction.Mov16 (dst-back d (f .0) j) (le-bytes 2 imm (f .1) j) l (le-bytes 8 kept (f .3) j)
-instruction-back (Instruction.Mov32 d imm l kept) f = λ j. Instruction.Mov32 (dst-back d (f .0) j) (le-bytes 4 imm (f .1) j) l (le-bytes 8 kept (f .3) j)
-instruction-back (Instruction.GetSr d sr kept) f = λ j. Instruction.GetSr (dst-back d (f .0) j) (mod-eq-of-lt (f .1) j) (le-bytes 8 kept (f .2) j)
-instruction-back (Instruction.Iadd o s n sa sb shift kept) f = λ j. Instruction.Iadd (binary-back o (f .0) j) s n sa sb shift (le-bytes 8 kept (f .6) j)
-instruction-back (Instruction.Imadd o s n sa sb sc shift kept) f = λ j. Instruction.Imadd (ternary-back o (f .0) j) s n sa sb sc shift (le-bytes 8 kept (f .7) j)
+instruction-back (Instruction.Mov16 d imm l kept) f =
+    λ j. Instruction.Mov16 (dst-back d (f .0) j) (le-bytes 2 imm (f .1) j) l (le-bytes 8 kept (f .3) j)
+instruction-back (Instruction.Mov32 d imm l kept) f =
+    λ j. Instruction.Mov32 (dst-back d (f .0) j) (le-bytes 4 imm (f .1) j) l (le-bytes 8 kept (f .3) j)
+instruction-back (Instruction.GetSr d sr kept) f =
+    λ j. Instruction.GetSr (dst-back d (f .0) j) (mod-eq-of-lt (f .1) j) (le-bytes 8 kept (f .2) j)
+instruction-back (Instruction.Iadd o s n sa sb shift kept) f =
+    λ j. Instruction.Iadd (binary-back o (f .0) j) s n sa sb shift (le-bytes 8 kept (f .6) j)
+instruction-back (Instruction.Imadd o s n sa sb sc shift kept) f =
+    λ j. Instruction.Imadd (ternary-back o (f .0) j) s n sa sb sc shift (le-bytes 8 kept (f .7) j)
 instruction-back (Instruction.Bfi x) f = λ j. Instruction.Bfi (bitfield-back x f j)
 instruction-back (Instruction.Bfeil x) f = λ j. Instruction.Bfeil (bitfield-back x f j)
 instruction-back (Instruction.Extr x) f = λ j. Instruction.Extr (bitfield-back x f j)
@@ -107,7 +120,8 @@ instruction-back (Instruction.Shlhi x) f = λ j. Instruction.Shlhi (bitfield-bac
 instruction-back (Instruction.Shrhi x) f = λ j. Instruction.Shrhi (bitfield-back x f j)
 instruction-back (Instruction.Asr x) f = λ j. Instruction.Asr (shift-back x f j)
 instruction-back (Instruction.Asrh x) f = λ j. Instruction.Asrh (shift-back x f j)
-instruction-back (Instruction.Bitop o t0 t1 t2 t3 kept) f = λ j. Instruction.Bitop (binary-back o (f .0) j) t0 t1 t2 t3 (le-bytes 8 kept (f .5) j)
+instruction-back (Instruction.Bitop o t0 t1 t2 t3 kept) f =
+    λ j. Instruction.Bitop (binary-back o (f .0) j) t0 t1 t2 t3 (le-bytes 8 kept (f .5) j)
 instruction-back (Instruction.Bitrev x) f = λ j. Instruction.Bitrev (scan-back x f j)
 instruction-back (Instruction.Popcount x) f = λ j. Instruction.Popcount (scan-back x f j)
 instruction-back (Instruction.Ffs x) f = λ j. Instruction.Ffs (scan-back x f j)

@@ -1,7 +1,7 @@
-pub mod Typed
-pub mod Back
 pub mod Form
 pub mod Bytes
-pub mod Reading
-pub mod Equal
+pub mod Examples
+pub mod Typed
+pub mod Back
 pub mod Spelling
+pub mod Reading

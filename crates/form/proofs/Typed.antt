@@ -1,5 +1,5 @@
--- What a machine holds as an instruction fits: a number in memory is within its type. `Is` is the kit's relation between a value and
--- what memory holds of it, which a function's proof has of each parameter.
+-- What memory holds as an instruction fits: each number is within its type. `Is` is the kit's relation between a value and what
+-- memory holds of it; the proof of a function has it of each parameter, as `c .good`.
 use mathlib.Core.List.{List}
 use mir.Val.{Val}
 use denote.Laws.{Is}
@@ -29,7 +29,8 @@ use Rattle.isa.proofs.instruction.Shift.{the-row as shift-row}
 use Rattle.isa.proofs.instruction.Scan.{the-row as scan-row}
 use Rattle.isa.proofs.instruction.Compare.{the-row as compare-row}
 use Rattle.isa.proofs.instruction.Instruction.{the-row as instruction-row}
-use Rattle.form.specs.Fits.{FitsDestination, FitsSource, FitsUnary, FitsBinary, FitsTernary, FitsCompared, FitsBitfield, FitsShift, FitsScan, FitsCompare, Fits}
+use Rattle.form.specs.Fits.{FitsDestination, FitsSource, FitsUnary, FitsBinary, FitsTernary, FitsCompared}
+use Rattle.form.specs.Fits.{FitsBitfield, FitsShift, FitsScan, FitsCompare, Fits}
 
 destination-fits : (d : Destination) (vs : List Val) → Is destination-row d vs → FitsDestination d
 destination-fits (Destination.Half x) vs p = p .1 .1 .1 .1 .0 .1
@@ -82,15 +83,21 @@ compare-fits x vs p =
     (f .1 .0 .1, f .1 .1 .0 .1, f .1 .1 .1 .0 .1, compared-fits (x .operands) _ (f .1 .1 .1 .1 .0), f .1 .1 .1 .1 .1 .0 .1)
 
 pub instruction-fits : (i : Instruction) (vs : List Val) → Is instruction-row i vs → Fits i
-instruction-fits (Instruction.Mov16 d imm l kept) vs p = let f = p .1 .1 .1 .1 in (dst-fits d _ (f .0), f .1 .0 .1, f .1 .1 .0 .1, f .1 .1 .1 .0 .1)
-instruction-fits (Instruction.Mov32 d imm l kept) vs p = let f = p .1 .1 .1 .1 in (dst-fits d _ (f .0), f .1 .0 .1, f .1 .1 .0 .1, f .1 .1 .1 .0 .1)
+instruction-fits (Instruction.Mov16 d imm l kept) vs p =
+    let f = p .1 .1 .1 .1 in
+    (dst-fits d _ (f .0), f .1 .0 .1, f .1 .1 .0 .1, f .1 .1 .1 .0 .1)
+instruction-fits (Instruction.Mov32 d imm l kept) vs p =
+    let f = p .1 .1 .1 .1 in
+    (dst-fits d _ (f .0), f .1 .0 .1, f .1 .1 .0 .1, f .1 .1 .1 .0 .1)
 instruction-fits (Instruction.GetSr d sr kept) vs p = let f = p .1 .1 .1 .1 in (dst-fits d _ (f .0), f .1 .0 .1, f .1 .1 .0 .1)
 instruction-fits (Instruction.Iadd o s n sa sb shift kept) vs p =
     let f = p .1 .1 .1 .1 in
-    (binary-fits o _ (f .0), f .1 .0 .1, f .1 .1 .0 .1, f .1 .1 .1 .0 .1, f .1 .1 .1 .1 .0 .1, f .1 .1 .1 .1 .1 .0 .1, f .1 .1 .1 .1 .1 .1 .0 .1)
+    (binary-fits o _ (f .0), f .1 .0 .1, f .1 .1 .0 .1, f .1 .1 .1 .0 .1, f .1 .1 .1 .1 .0 .1,
+      f .1 .1 .1 .1 .1 .0 .1, f .1 .1 .1 .1 .1 .1 .0 .1)
 instruction-fits (Instruction.Imadd o s n sa sb sc shift kept) vs p =
     let f = p .1 .1 .1 .1 in
-    (ternary-fits o _ (f .0), f .1 .0 .1, f .1 .1 .0 .1, f .1 .1 .1 .0 .1, f .1 .1 .1 .1 .0 .1, f .1 .1 .1 .1 .1 .0 .1, f .1 .1 .1 .1 .1 .1 .0 .1, f .1 .1 .1 .1 .1 .1 .1 .0 .1)
+    (ternary-fits o _ (f .0), f .1 .0 .1, f .1 .1 .0 .1, f .1 .1 .1 .0 .1, f .1 .1 .1 .1 .0 .1,
+      f .1 .1 .1 .1 .1 .0 .1, f .1 .1 .1 .1 .1 .1 .0 .1, f .1 .1 .1 .1 .1 .1 .1 .0 .1)
 instruction-fits (Instruction.Bfi x) vs p = bitfield-fits x _ (p .1 .1 .1 .1 .0)
 instruction-fits (Instruction.Bfeil x) vs p = bitfield-fits x _ (p .1 .1 .1 .1 .0)
 instruction-fits (Instruction.Extr x) vs p = bitfield-fits x _ (p .1 .1 .1 .1 .0)

@@ -1,4 +1,4 @@
--- An instruction fits where each of its numbers is within the type that crates/isa/src gives it: a machine has no other instructions.
+-- An instruction fits where each of its numbers is within the type that it has in crates/isa/src. A program has no other instructions.
 use Prim.Native.Nat.{ℕ, _^_, _<_}
 use Rattle.isa.specs.declared.operand.Destination.{Destination}
 use Rattle.isa.specs.declared.operand.Source.{Source}

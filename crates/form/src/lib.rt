@@ -28,7 +28,7 @@ pub fn to_bytes(i: Instruction) -> [u8; 48]
     lay_out(p, n as u8)
 }
 
-fn same(a: &[u8], b: &[u8]) -> bool
+fn equal(a: &[u8], b: &[u8]) -> bool
     requires { ⌜ length (now a) ≡ length (now b) ⌝ }
     ensures { λ r. ⌜ r ≡ eqList (now (a .entry)) (now (b .entry)) ⌝ }
 {
@@ -58,7 +58,7 @@ pub fn from_bytes(b: &[u8]) -> Spelled
     }
     let i = instruction_from(kind, b);
     let f = to_bytes(i);
-    if same(&f, b) {
+    if equal(&f, b) {
         Spelled::Is(i)
     } else {
         Spelled::None

@@ -5,7 +5,6 @@ ghost use lib.ListN.{length};
 ghost use Rattle.form.specs.Form.{numberAt, hintFrom, destinationFrom, sourceFrom, dstAt, srcAt, keptFrom};
 ghost use Rattle.form.specs.Form.{unaryFrom, binaryFrom, ternaryFrom, comparedFrom, bitfieldFrom, shiftFrom, scanFrom, compareFrom};
 ghost use Rattle.form.specs.Form.{mov16From, mov32From, getSrFrom, iaddFrom, imaddFrom, bitopFrom, popExecFrom, instructionFrom};
-
 use bits::word;
 use isa::instruction::Bitfield;
 use isa::instruction::Compare;

@@ -1,12 +1,11 @@
 -- What holds of whatever is read: going on with operands keeps it, and operands that were read together were each read.
-use mathlib.Core.Path.{_≡_, refl, sym, ap, subst}
+use mathlib.Core.Path.{_≡_, refl, ap, subst}
 use mathlib.Core.Bool.{Bool, true, false, cond}
 use Prim.Native.Nat.{ℕ}
 use native.Mathlib.Omega.{arith}
 use Rattle.isa.specs.Operand.{meansCondition}
 use Rattle.isa.specs.Together.{unary, binary, ternary, compared, withDst, withUnary, withBinary, withTernary, withCompared, withCondition}
 use Rattle.isa.specs.declared.operand.Dst.{Dst}
-use Rattle.isa.specs.declared.operand.Src.{Src}
 use Rattle.isa.specs.declared.operand.Unary.{Unary}
 use Rattle.isa.specs.declared.operand.Binary.{Binary}
 use Rattle.isa.specs.declared.operand.Ternary.{Ternary}

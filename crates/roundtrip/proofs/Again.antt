@@ -3,13 +3,12 @@
 use mathlib.Core.Path.{_≡_, refl, sym, ap, ap₂, _∙_}
 use mathlib.Core.Bool.{Bool, true, false, cond}
 use mathlib.Core.List.{List, [], _∷_}
-use Prim.Native.Nat.{ℕ, _+_, _*_, _/_, _%_, _^_, _<_}
+use Prim.Native.Nat.{ℕ, _+_, _*_, _/_, _%_, _^_}
 use Prim.Native.String.{String}
 use native.Mathlib.Omega.{arith}
 use lib.Bits.{bitAnd}
 use lib.Dec.{T}
 use lib.Text.{eqt, eqt→eq}
-use Rattle.bits.specs.Word.{fieldOf}
 use Rattle.isa.specs.Operand.{destinationOf, sourceOf, cacheHint}
 use Rattle.isa.specs.Together.{unary, binary, ternary, compared, withDst, withUnary, withBinary, withTernary, withCompared, withCondition}
 use Rattle.isa.specs.Diagram.{Diagram, Field, fieldIn, mask, readBy}
@@ -29,8 +28,8 @@ use Rattle.isa.specs.declared.instruction.Scan.{Scan}
 use Rattle.isa.specs.declared.instruction.Compare.{Compare}
 use Rattle.isa.specs.declared.instruction.Instruction.{Instruction}
 use Rattle.isa.specs.declared.answer.Reading.{Reading}
-use Rattle.writing.specs.Write.{Named, _is_, numberIn, cacheBit, dstNumber, dstFlags, srcNumber, srcFlags, ofUnary, ofBinary, ofBitfield, ofCompare, fieldsFor, keptOf}
-use Rattle.roundtrip.specs.Reasons.{Held, HoldsDst, HoldsMov, HoldsSrc, HoldsHint, HoldsUnary, HoldsBinary, HoldsTernary, HoldsCompare}
+use Rattle.writing.specs.Write.{Named, _is_, numberIn, cacheBit, dstNumber, dstFlags, srcNumber, srcFlags, ofUnary, ofBinary, ofBitfield, ofCompare, fieldsFor}
+use Rattle.roundtrip.specs.Reasons.{HoldsDst, HoldsSrc, HoldsHint, HoldsUnary, HoldsBinary, HoldsTernary, HoldsCompare}
 use Rattle.roundtrip.proofs.Operands.{dst-back, src-back, cache-bit}
 use Rattle.roundtrip.proofs.Words.{Agree}
 

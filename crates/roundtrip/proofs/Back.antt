@@ -1,8 +1,8 @@
 -- What decodes is the encoding of what it decodes to.
 use mathlib.Core.Path.{_≡_, refl, sym, ap, ap₂, _∙_, subst}
-use mathlib.Core.Bool.{Bool, true, false, cond, _&&_}
+use mathlib.Core.Bool.{Bool, true, false, _&&_}
 use mathlib.Core.List.{List, [], _∷_}
-use Prim.Native.Nat.{ℕ, zero, suc, _+_, _*_, _-_, _^_, _≤_, _<_}
+use Prim.Native.Nat.{ℕ, zero, suc, _*_, _-_, _^_, _≤_, _<_}
 use native.Mathlib.Nat.{le-of-suc-le-suc, not-suc-le-zero}
 use native.Mathlib.Omega.{arith}
 use lib.Bits.{bitAnd}
@@ -12,7 +12,7 @@ use lib.Pow.{pow-mono}
 use lib.Seq.{length-take-le, take-all}
 use lib.Text.{eqt}
 use Prim.Native.String.{String}
-use borrow.Author.Tests.{eqb-true, eq-eqb, leb-true, le-leb}
+use borrow.Author.Tests.{eqb-true, eq-eqb, le-leb}
 use Rattle.bits.specs.Word.{le, bytesOf}
 use Rattle.bits.proofs.Laws.{Bytes, bytes-take, bytes-le, le-lt, pow-bytes}
 use Rattle.bits.proofs.Masks.{and-assoc, fixed-field}
@@ -22,21 +22,19 @@ use Rattle.isa.specs.Rows.{rows}
 use Rattle.isa.specs.Find.{Form, forms, matches, findOf}
 use Rattle.isa.specs.Decode.{rowAt, noDiagram, readAt, decodedOf, readFound, decodeOf}
 use Rattle.isa.specs.Place.{placeOf}
-use Rattle.isa.specs.declared.answer.Refusal.{Refusal}
 use Rattle.isa.specs.declared.answer.Find.{Find}
 use Rattle.isa.specs.declared.answer.Reading.{Reading}
 use Rattle.isa.specs.declared.answer.Decoded.{Decoded}
 use Rattle.isa.specs.declared.instruction.Instruction.{Instruction}
-use Rattle.isa.proofs.Forms.{and-left, and-right}
-use Rattle.isa.proofs.Found.{formAt, Matched, found-form, only-form, found-length}
+use Rattle.isa.proofs.Forms.{and-right}
+use Rattle.isa.proofs.Found.{Matched, found-form, only-form, found-length}
 use Rattle.isa.proofs.Placed.{length-rows, place-below, found-place}
 use Rattle.isa.proofs.WasRead.{Reads}
 use Rattle.parts.specs.Parts.{partsOf, lengthBy, lengthFor}
 use Rattle.parts.proofs.Kind.{kind-of}
 use Rattle.writing.specs.Write.{wordFor}
 use Rattle.encode.specs.Encode.{lengthOf, bytesFor}
-use Rattle.roundtrip.specs.Reasons.{Held}
-use Rattle.roundtrip.proofs.Words.{Agree, whole, all-whole, word-again}
+use Rattle.roundtrip.proofs.Words.{whole, all-whole, word-again}
 use Rattle.roundtrip.proofs.Told.{Told, Fixed, AllTold, rows-told}
 
 -- ---- the form of a diagram, against the diagram

@@ -1,5 +1,5 @@
 -- An operand that was read has the number and the flags that it was read from.
-use mathlib.Core.Path.{_≡_, refl, sym, ap, _∙_, subst}
+use mathlib.Core.Path.{_≡_, refl, subst}
 use mathlib.Core.Bool.{Bool, true, false, cond}
 use Prim.Native.Nat.{ℕ, _+_, _*_, _/_, _%_, _^_, _≤_, _<_}
 use native.Mathlib.Nat.{mod-lt}
@@ -8,8 +8,6 @@ use lib.Dec.{eqb, lit<}
 use borrow.Author.Tests.{eqb-true, eqb-false}
 use Rattle.bits.specs.Word.{fieldOf}
 use Rattle.isa.specs.Operand.{cacheHint, sourceHint, destinationOf, uniformOf, sourceOf}
-use Rattle.isa.specs.declared.operand.Destination.{Destination}
-use Rattle.isa.specs.declared.operand.Source.{Source}
 use Rattle.isa.specs.declared.operand.Hint.{Hint}
 use Rattle.isa.specs.declared.operand.Dst.{Dst}
 use Rattle.isa.specs.declared.operand.Src.{Src}

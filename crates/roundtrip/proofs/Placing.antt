@@ -2,16 +2,15 @@
 use mathlib.Core.Path.{_≡_, refl, sym, ap, ap₂, _∙_}
 use mathlib.Core.Bool.{Bool, true, _&&_}
 use mathlib.Core.List.{List, [], _∷_}
-use Prim.Native.Nat.{ℕ, _+_, _*_, _-_, _/_, _%_, _^_, _≤_, _<_}
-use native.Mathlib.Nat.{mod-lt, mod-eq-of-lt}
-use native.Mathlib.Omega.{arith}
+use Prim.Native.Nat.{ℕ, _+_, _*_, _-_, _/_, _%_, _^_, _<_}
+use native.Mathlib.Nat.{mod-eq-of-lt}
 use lib.Bits.{bitAnd, bitOr, and-comm, and-zero-r, or-zero-l, or-zero-r, and-high}
-use lib.Dec.{T, eqb, leb, eqb→eq, leb→le}
+use lib.Dec.{T, eqb, eqb→eq, leb→le}
 use lib.Pow.{shl-exact, shl-shr}
 use Rattle.bits.specs.Word.{fieldOf}
-use Rattle.bits.proofs.Masks.{and-assoc, and-or, put-field}
+use Rattle.bits.proofs.Masks.{and-assoc, and-or}
 use Rattle.bits.proofs.Table.{all, left, right}
-use Rattle.isa.specs.Diagram.{Diagram, Field, widthOf, spanMask, mask, fixedMask, fixedValue}
+use Rattle.isa.specs.Diagram.{Diagram, Field, widthOf, spanMask, mask, fixedValue}
 use Rattle.isa.specs.Rows.{rows}
 use Rattle.writing.specs.Write.{Named, numberIn, put, over, wordBy}
 use Rattle.roundtrip.specs.Reasons.{Within}

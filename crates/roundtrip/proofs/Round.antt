@@ -1,7 +1,7 @@
 -- The two round trips: what was decoded is encoded to the same bytes, "?" bits too, and what the encoder accepts decodes, alone, to
 -- what it was given. Stated of the bytes, and of what encoding answers and leaves.
 use mathlib.Core.Path.{_≡_, refl, sym, ap, ap₂, _∙_, subst}
-use mathlib.Core.Bool.{Bool, true, false, cond, _&&_}
+use mathlib.Core.Bool.{Bool, true, false}
 use mathlib.Core.List.{List, _++_}
 use mathlib.Core.Logic.{_↔_}
 use Prim.Native.Nat.{ℕ, _≤_}
@@ -12,7 +12,6 @@ use lib.Seq.{take-append-seam}
 use borrow.Author.Tests.{eqb-true, eq-eqb, le-leb}
 use Rattle.bits.proofs.Laws.{Bytes, length-bytesOf, bytes-bytesOf}
 use Rattle.isa.specs.Decode.{decodeOf}
-use Rattle.isa.specs.declared.answer.Refusal.{Refusal}
 use Rattle.isa.specs.declared.answer.Decoded.{Decoded}
 use Rattle.isa.specs.declared.answer.Encoded.{Encoded}
 use Rattle.isa.specs.declared.instruction.Instruction.{Instruction}

@@ -3,7 +3,7 @@
 use mathlib.Core.Path.{_≡_, refl, sym, ap, _∙_, subst}
 use mathlib.Core.Bool.{Bool, true, false}
 use mathlib.Core.List.{List, [], _∷_}
-use Prim.Native.Nat.{ℕ, _+_, _*_, _/_, _%_, _^_, _≤_, _<_}
+use Prim.Native.Nat.{ℕ, _+_, _*_, _/_, _%_, _^_, _<_}
 use native.Mathlib.Nat.{mod-lt}
 use native.Mathlib.Omega.{arith}
 use lib.Bits.{bitAnd, and-zero-r}
@@ -11,9 +11,8 @@ use lib.Dec.{lit<}
 use Rattle.bits.specs.Word.{fieldOf}
 use Rattle.bits.proofs.Masks.{fixed-field}
 use Rattle.bits.proofs.Table.{_&_}
-use Rattle.isa.specs.Operand.{destinationOf, sourceOf, cacheHint}
-use Rattle.isa.specs.Together.{unary, binary, ternary, compared}
-use Rattle.isa.specs.Diagram.{Diagram, Field, Fields, fieldIn, mask, fixedMask, fixedValue, readBy}
+use Rattle.isa.specs.Operand.{destinationOf, sourceOf}
+use Rattle.isa.specs.Diagram.{Diagram, fieldIn, mask, fixedMask, fixedValue, readBy}
 use Rattle.isa.specs.Read.{bitfield, shift, scan, compare}
 use Rattle.isa.specs.Rows.{rows}
 use Rattle.isa.specs.Decode.{rowAt}
@@ -30,8 +29,8 @@ use Rattle.isa.proofs.WasRead.{Reads, is-reads, on-dst, on-unary, on-binary, on
 use Rattle.isa.specs.declared.answer.Reading.{Reading}
 use Rattle.parts.specs.Parts.{partsOf}
 use Rattle.writing.specs.Write.{Named, _is_, ofUnary, ofBinary, ofBitfield, ofCompare, fieldsFor, keptOf}
-use Rattle.roundtrip.specs.Reasons.{Held, HoldsDst, HoldsMov, HoldsSrc, HoldsHint, HoldsUnary, HoldsBinary, HoldsTernary, HoldsCompare}
-use Rattle.roundtrip.proofs.Operands.{DstTold, dst-told, SrcTold, src-told, joined-lt, cut-joined, cache-bit}
+use Rattle.roundtrip.specs.Reasons.{Held, HoldsDst, HoldsSrc, HoldsUnary, HoldsBinary, HoldsTernary, HoldsCompare}
+use Rattle.roundtrip.proofs.Operands.{dst-told, src-told, joined-lt, cut-joined, cache-bit}
 use Rattle.roundtrip.proofs.Words.{Agree}
 
 abbrev pub Told : Diagram → ℕ → Instruction → Type 0

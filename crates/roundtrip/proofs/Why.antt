@@ -1,21 +1,22 @@
 -- The reasons of refusal 8, and no others: what is accepted has none of them, and what has none of them is accepted.
-use mathlib.Core.Path.{_≡_, refl, sym, ap, ap₂, _∙_}
+use mathlib.Core.Path.{_≡_, refl, sym, ap, _∙_, subst}
 use mathlib.Core.Bool.{Bool, true, false}
 use mathlib.Core.List.{List, [], _∷_}
 use mathlib.Core.Logic.{_↔_}
-use Prim.Native.Nat.{ℕ, _+_, _*_, _/_, _^_, _<_}
+use Prim.Native.Nat.{ℕ, _*_, _/_, _^_, _<_, _≤_}
 use native.Mathlib.Nat.{le-refl, mod-lt}
 use native.Mathlib.Omega.{arith}
 use lib.Bits.{bitAnd, bitOr, and-self, or-zero-l}
-use lib.Dec.{T, eqb}
-use lib.ListN.{take, drop}
+use lib.Dec.{T, eqb, leb, lit≤}
+use lib.ListN.{length, take, drop}
 use lib.Pow.{pow-pos}
 use borrow.Author.Tests.{eqb-true, eqb-false}
-use Rattle.bits.specs.Word.{le, bytesOf}
+use Rattle.bits.specs.Word.{le}
 use Rattle.bits.proofs.Laws.{Bytes, bytes-bytesOf, take-bytes, le-bytes, pow-bytes}
 use Rattle.bits.proofs.Masks.{and-assoc}
 use Rattle.bits.proofs.Table.{_&_, all-at}
 use Rattle.isa.specs.Diagram.{Field, widthOf, mask, fixedValue}
+use Rattle.isa.specs.Refusal.{numberOf}
 use Rattle.isa.specs.Rows.{rows}
 use Rattle.isa.specs.Decode.{noDiagram, rowAt, readAt, decodedOf, readFound, decodeOf}
 use Rattle.isa.specs.Place.{placeOf}
@@ -27,12 +28,12 @@ use Rattle.isa.specs.declared.answer.Decoded.{Decoded}
 use Rattle.isa.specs.declared.answer.Encoded.{Encoded}
 use Rattle.isa.specs.declared.instruction.Instruction.{Instruction}
 use Rattle.isa.proofs.Placed.{length-rows, place-below, found-place}
-use Rattle.writing.specs.Write.{Named, numberIn, put, dstFlags, cacheBit, fieldsFor, keptOf, wordFor}
-use Rattle.encode.specs.Encode.{lengthOf, bytesFor, accepts, encodedOf, leftBy}
-use Rattle.roundtrip.specs.Reasons.{Held, HoldsDst, HoldsMov, Within, FieldsFit, KeptFits, NoAbsentBit, Finds, Encodable}
+use Rattle.writing.specs.Write.{Named, numberIn, put, fieldsFor, keptOf, wordFor}
+use Rattle.encode.specs.Encode.{lengthOf, bytesFor, accepts, answerBy, encodedOf, leftBy}
+use Rattle.roundtrip.specs.Reasons.{Held, HoldsDst, HoldsMov, Within, Encodable}
 use Rattle.roundtrip.proofs.Operands.{dst-back}
 use Rattle.roundtrip.proofs.Words.{Agree}
-use Rattle.roundtrip.proofs.Placing.{or-and, kept-off, separate, all-separate, clear, Settled, settled, off-unknown, has-kept, has-settled, has-clear}
+use Rattle.roundtrip.proofs.Placing.{or-and, kept-off, separate, all-separate, clear, Settled, settled, has-kept, has-settled, has-clear}
 use Rattle.roundtrip.proofs.Again.{Has, mov16-again, mov32-again, get-sr-again, iadd-again, imadd-again, bitfield-again, shift-layout-again, bitop-again, scan-again, jump-again, pop-exec-again, compare-again}
 use Rattle.roundtrip.proofs.Back.{told, word-lt, word-back}
 use Rattle.roundtrip.proofs.Round.{accepted-decodes, decoded-accepted}
@@ -184,3 +185,17 @@ refused-for i h out = go (accepts i) refl
     go : (b : Bool) → accepts i ≡ b → (encodedOf i out ≡ Encoded.Refused Refusal.NoEncoding) × (leftBy i out ≡ out)
     go true e = absurd (h (accepted-encodable i e))
     go false e = (rw e, rw e)
+
+abbrev Numbered : Encoded → Type 0
+Numbered (Encoded.Wrote n) = Unit {0}
+Numbered (Encoded.Refused r) = (8 ≤ numberOf r) × (numberOf r ≤ 9)
+
+-- refused, the encoder answers 8 or 9, and nothing else
+pub refused-with : (i : Instruction) (out : List ℕ) (r : Refusal) → encodedOf i out ≡ Encoded.Refused r → (8 ≤ numberOf r) × (numberOf r ≤ 9)
+unfolding encodedOf
+refused-with i out r e = subst Numbered e (go (accepts i) (leb (lengthOf i) (length out)) refl)
+  where
+    go : (a b : Bool) → leb (lengthOf i) (length out) ≡ b → Numbered (answerBy a (lengthOf i) (length out))
+    go true true z = rw z tt
+    go true false z = rw z (lit≤ tt, lit≤ tt)
+    go false b z = (lit≤ tt, lit≤ tt)

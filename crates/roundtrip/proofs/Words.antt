@@ -1,11 +1,11 @@
 -- A word is made again of what a diagram reads from it: its fields, its "?" bits and its fixed bits.
-use mathlib.Core.Path.{_≡_, refl, sym, ap, ap₂, _∙_}
+use mathlib.Core.Path.{_≡_, sym, ap, ap₂, _∙_}
 use mathlib.Core.Bool.{Bool, _&&_}
 use mathlib.Core.List.{List, [], _∷_}
-use Prim.Native.Nat.{ℕ, _+_, _*_, _-_, _^_, _≤_, _<_}
+use Prim.Native.Nat.{ℕ, _+_, _*_, _-_, _^_, _<_}
 use lib.Bits.{bitAnd, bitOr}
 use lib.Dec.{T, eqb, leb, eqb→eq, leb→le}
-use Rattle.bits.specs.Word.{fieldOf, ones}
+use Rattle.bits.specs.Word.{fieldOf}
 use Rattle.bits.proofs.Masks.{and-or, put-field, and-all}
 use Rattle.bits.proofs.Table.{all, left, right}
 use Rattle.isa.specs.Diagram.{Diagram, Field, widthOf, spanMask, mask, fixedMask, fixedValue}

@@ -2,7 +2,7 @@
 use mathlib.Core.Path.{_≡_}
 use mathlib.Core.Bool.{Bool, true, false}
 use mathlib.Core.List.{List, [], _∷_}
-use Prim.Native.Nat.{ℕ, _*_, _/_, _^_, _≤_, _<_}
+use Prim.Native.Nat.{ℕ, _*_, _/_, _^_, _<_}
 use lib.Bits.{bitAnd}
 use Rattle.isa.specs.Operand.{cacheHint, destinationOf, sourceOf, meansCondition}
 use Rattle.isa.specs.Diagram.{Field, widthOf, mask}

@@ -3,7 +3,7 @@
 use Prim.Native.Nat.{ℕ, _+_, _*_, _/_, _%_, _^_}
 use Prim.Native.String.{String}
 use mathlib.Core.Bool.{cond}
-use mathlib.Core.List.{List, [], _∷_, _++_}
+use mathlib.Core.List.{List, [], _∷_}
 use lib.Bits.{bitOr}
 use lib.Text.{eqt}
 use Rattle.isa.specs.Diagram.{Diagram, Field, fixedValue}
@@ -17,10 +17,7 @@ use Rattle.isa.specs.declared.operand.Src.{Src}
 use Rattle.isa.specs.declared.operand.Unary.{Unary}
 use Rattle.isa.specs.declared.operand.Binary.{Binary}
 use Rattle.isa.specs.declared.operand.Ternary.{Ternary}
-use Rattle.isa.specs.declared.operand.Compared.{Compared}
 use Rattle.isa.specs.declared.instruction.Bitfield.{Bitfield}
-use Rattle.isa.specs.declared.instruction.Shift.{Shift}
-use Rattle.isa.specs.declared.instruction.Scan.{Scan}
 use Rattle.isa.specs.declared.instruction.Compare.{Compare}
 use Rattle.isa.specs.declared.instruction.Instruction.{Instruction}
 

@@ -1,5 +1,6 @@
-use mathlib.Core.Path.{sym, ap, _∙_}
-use mathlib.Core.Bool.{Bool, cond}
+use mathlib.Core.Path.{_≡_}
+use mathlib.Core.Bool.{cond}
+use Rattle.form.specs.Form.{spelledOf}
 use Rattle.form.specs.declared.Spelled.{Spelled}
 use Rattle.form.proofs.Spelling.{other-length, no-kind, high-kind, compared}
 use borrow.Author.Needs.{needs}
@@ -13,10 +14,14 @@ shared-slice-read-kind : tie.Need-shared-slice-read-kind
 shared-slice-read-kind c = search needs
 
 returns-2 : tie.Need-returns-2
-returns-2 c = no-kind (c .before .before .before .before .args .b .now) (c .before .before .if1 .left) (c .if2 .taken)
+returns-2 c =
+    let known = c .before .before in
+    no-kind (known .before .before .args .b .now) (known .if1 .left) (c .if2 .taken)
 
 returns-3 : tie.Need-returns-3
-returns-3 c = high-kind (c .before .before .before .before .before .args .b .now) (c .before .before .before .if1 .left) (c .if3 .taken)
+returns-3 c =
+    let known = c .before .before .before in
+    high-kind (known .before .before .args .b .now) (known .if1 .left) (c .if3 .taken)
 
 instruction-from-requires : tie.Need-instruction-from-requires
 instruction-from-requires c κs = search needs
@@ -24,29 +29,28 @@ instruction-from-requires c κs = search needs
 to-bytes-requires : tie.Need-to-bytes-requires
 to-bytes-requires c κs = search needs
 
-slice-aggregate-same : tie.Need-slice-aggregate-same
-slice-aggregate-same c = search needs
+slice-aggregate-equal : tie.Need-slice-aggregate-equal
+slice-aggregate-equal c = search needs
 
-same-requires : tie.Need-same-requires
-same-requires c κs = search needs
+equal-requires : tie.Need-equal-requires
+equal-requires c κs = search needs
+
+-- by the comparison of the bytes with the form of what was read
+by-form : (c : tie.After-equal)
+    → cond (c .equal .result) (Spelled.Is (c .before .before .before .instruction-from .result)) Spelled.None
+      ≡ spelledOf (c .before .before .before .before .before .before .before .before .before .args .b .now)
+by-form c =
+    let form = c .before .before .to-bytes in
+    let read = c .before .before .before in
+    let known = read .before .before .before .before in
+    compared (known .before .before .args .b .now) (known .if1 .left) (read .before .before .if2 .left) (read .before .if3 .left)
+    (read .instruction-from .result) (form .result) (c .equal .result) (read .instruction-from .ensures) (form .ensures .0) (c .equal .ensures)
 
 returns-4 : tie.Need-returns-4
-returns-4 c =
-    let i = c .before .before .before .before .instruction-from in
-    let f = c .before .before .before .to-bytes in
-    let t = c .before .same in
-    ap (λ (x : Bool). cond x (Spelled.Is (i .result)) Spelled.None) (sym (c .if4 .taken))
-    ∙ compared (c .before .before .before .before .before .before .before .before .before .before .args .b .now) (c .before .before .before .before .before .before .before .before .if1 .left) (c .before .before .before .before .before .before .if2 .left) (c .before .before .before .before .before .if3 .left)
-      (i .result) (f .result) (t .result) (i .ensures) (f .ensures .0) (t .ensures)
+returns-4 c = rw (c .if4 .taken) at (by-form (c .before))
 
 returns-5 : tie.Need-returns-5
-returns-5 c =
-    let i = c .before .before .before .before .instruction-from in
-    let f = c .before .before .before .to-bytes in
-    let t = c .before .same in
-    ap (λ (x : Bool). cond x (Spelled.Is (i .result)) Spelled.None) (sym (c .if4 .left))
-    ∙ compared (c .before .before .before .before .before .before .before .before .before .before .args .b .now) (c .before .before .before .before .before .before .before .before .if1 .left) (c .before .before .before .before .before .before .if2 .left) (c .before .before .before .before .before .if3 .left)
-      (i .result) (f .result) (t .result) (i .ensures) (f .ensures .0) (t .ensures)
+returns-5 c = rw (c .if4 .left) at (by-form (c .before))
 
 pub from-bytes-spec : {M : Type 1} → statement M
 from-bytes-spec =
@@ -58,7 +62,7 @@ from-bytes-spec =
     returns-3
     instruction-from-requires
     to-bytes-requires
-    slice-aggregate-same
-    same-requires
+    slice-aggregate-equal
+    equal-requires
     returns-4
     returns-5)

@@ -1,7 +1,5 @@
 use mathlib.Core.Path.{_≡_, ap, ap₂, _∙_}
-use Prim.Native.Nat.{ℕ}
 use Rattle.parts.specs.Parts.{lengthFor}
-use Rattle.parts.specs.declared.Parts.{Parts}
 use Rattle.form.specs.Form.{layWith, formOf, spelledOf}
 use Rattle.form.proofs.Typed.{instruction-fits}
 use Rattle.form.proofs.Form.{form-spelled}
@@ -23,10 +21,11 @@ lay-out-requires c κs = search needs
 
 returns : tie.Need-returns
 returns c =
-    let i = c .before .before .before .args .i in
+    let s = c .before .before .before in
     let p = c .before .before .parts-of .ensures in
-    let e : c .lay-out .result ≡ formOf i = c .lay-out .ensures ∙ ap₂ layWith p (c .before .length-of .ensures .0 ∙ ap lengthFor p) in
-    (e, ap spelledOf e ∙ form-spelled i (instruction-fits i _ (c .before .before .before .good .0)))
+    let n = c .before .length-of .ensures .0 in
+    let e : c .lay-out .result ≡ formOf (s .args .i) = c .lay-out .ensures ∙ ap₂ layWith p (n ∙ ap lengthFor p) in
+    (e, ap spelledOf e ∙ form-spelled (s .args .i) (instruction-fits (s .args .i) _ (s .good .0)))
 
 pub to-bytes-spec : {M : Type 1} → statement M
 to-bytes-spec =

@@ -24,7 +24,9 @@ kept-from-requires : tie.Need-kept-from-requires
 kept-from-requires c κs = search needs
 
 returns : tie.Need-returns
-returns c = rw (← c .kept-from .ensures, ← c .before .before .before .before .compared-from .ensures, ← c .before .before .before .before .before .hint-from .ensures)
+returns c =
+    let o = c .before .before .before .before in
+    rw (← c .kept-from .ensures, ← o .compared-from .ensures, ← o .before .hint-from .ensures)
 
 pub compare-from-spec : {M : Type 1} → statement M
 compare-from-spec =

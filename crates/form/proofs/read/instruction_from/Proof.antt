@@ -167,7 +167,9 @@ returns-21 c = rw (c .before .match .keys21) (ap Instruction.WhileIcmp (c .compa
 
 returns-22 : tie.Need-returns-22
 unfolding instructionFrom
-returns-22 c = rw (last-arm 21 _ (c .before .match .rest) (one-less _ (c .before .before .before .pre .0) (c .before .before .before .pre .1))) (ap Instruction.ElseIcmp (c .compare-from3 .ensures))
+returns-22 c =
+    let s = c .before .before .before in
+    rw (last-arm 21 _ (c .before .match .rest) (one-less _ (s .pre .0) (s .pre .1))) (ap Instruction.ElseIcmp (c .compare-from3 .ensures))
 
 pub instruction-from-spec : {M : Type 1} → statement M
 instruction-from-spec =

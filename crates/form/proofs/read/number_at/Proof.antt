@@ -21,8 +21,9 @@ word-requires c κs = search needs
 
 returns : tie.Need-returns
 returns c =
-    let s = c .before .before .before .args in
-    word-number (s .b .now) (s .k) (s .n) (c .word .result) (λ i. c .before .before .shared-slice-known .given i .fits) (omega arith) (c .word .ensures)
+    let known = c .before .before in
+    let s = known .before .args in
+    word-number (s .b .now) (s .k) (s .n) (c .word .result) (λ i. known .shared-slice-known .given i .fits) (omega arith) (c .word .ensures)
 
 pub number-at-spec : {M : Type 1} → statement M
 number-at-spec =

@@ -15,7 +15,8 @@ src-at-requires-3 : tie.Need-src-at-requires-3
 src-at-requires-3 c κs = search needs
 
 returns : tie.Need-returns
-returns c = rw (← c .src-at3 .ensures, ← c .before .src-at2 .ensures, ← c .before .before .src-at .ensures, ← c .before .before .before .dst-at .ensures)
+returns c =
+    rw (← c .src-at3 .ensures, ← c .before .src-at2 .ensures, ← c .before .before .src-at .ensures, ← c .before .before .before .dst-at .ensures)
 
 pub ternary-from-spec : {M : Type 1} → statement M
 ternary-from-spec =

@@ -1,12 +1,13 @@
--- The invariant: what is left of the two lists is equal where the lists are.
-use mathlib.Core.Path.{_≡_, refl, _∙_}
+-- The invariant: the bytes from i on are equal exactly where all are.
+use mathlib.Core.Path.{_≡_, refl, sym, _∙_}
 use Prim.Native.Nat.{_-_, _≤_}
 use native.Mathlib.Omega.{arith}
 use lib.ListN.{length, drop}
+use borrow.Author.Tests.{eq-eqb, ne-eqb}
 use Rattle.parts.specs.Parts.{eqList}
-use Rattle.form.proofs.Equal.{alike, differ, done}
-use Rattle.form.proofs.same.Statement.{statement}
-use Rattle.form.proofs.same.Tie as tie
+use Rattle.parts.proofs.Lists.{eq-step, eq-end}
+use Rattle.form.proofs.equal.Statement.{statement}
+use Rattle.form.proofs.equal.Tie as tie
 
 abbrev Inv-loop : tie.InvT-loop
 Inv-loop a b i₀ i = (i ≤ length a) × (eqList (drop i a) (drop i b) ≡ eqList a b)
@@ -26,7 +27,9 @@ shared-slice-read-if1-2 c = omega arith
 returns : tie.Need-returns Inv-loop μ-loop
 returns c =
     let l = c .before .before .before .before in
-    differ (l .before .args .a .now) (l .before .args .b .now) (l .loop .i) (l .before .pre) (omega arith) (c .if1 .taken) ∙ l .loop .inv .1
+    let s = l .before .args in
+    let e = eq-step (s .a .now) (s .b .now) (l .loop .i) (omega arith) (omega arith) in
+    sym (e ∙ simp (ne-eqb _ _ (c .if1 .taken))) ∙ l .loop .inv .1
 
 add-i : tie.Need-add-i Inv-loop μ-loop
 add-i c = omega arith
@@ -37,15 +40,18 @@ loop-less c = omega arith
 loop-again : tie.Need-loop-again Inv-loop μ-loop
 loop-again c =
     let l = c .before .before .before .before in
-    (omega arith, alike (l .before .args .a .now) (l .before .args .b .now) (l .loop .i) (l .before .pre) (omega arith) (c .if1 .left) ∙ l .loop .inv .1)
+    let s = l .before .args in
+    let e = eq-step (s .a .now) (s .b .now) (l .loop .i) (omega arith) (omega arith) in
+    (omega arith, sym (e ∙ simp (eq-eqb _ _ (c .if1 .left))) ∙ l .loop .inv .1)
 
 returns-2 : tie.Need-returns-2 Inv-loop μ-loop
 returns-2 c =
     let l = c .before in
-    done (l .before .args .a .now) (l .before .args .b .now) (l .loop .i) (l .before .pre) (omega arith) ∙ l .loop .inv .1
+    let s = l .before .args in
+    sym (eq-end (s .a .now) (s .b .now) (l .loop .i) (omega arith) (omega arith)) ∙ l .loop .inv .1
 
-pub same-spec : {M : Type 1} → statement M
-same-spec =
+pub equal-spec : {M : Type 1} → statement M
+equal-spec =
     tie.close
     (tie.spec
     Inv-loop
