@@ -77,43 +77,12 @@ pub fn parts_of(i: Instruction) -> Parts
         Instruction::Mov16 { d, imm16, l, kept } => of_dst(1, d, imm16 as u32, l, kept),
         Instruction::Mov32 { d, imm32, l, kept } => of_dst(2, d, imm32, l, kept),
         Instruction::GetSr { d, sr, kept } => of_dst(3, d, sr as u32, 0, kept),
-        Instruction::Iadd {
-            operands,
-            saturate,
-            negate,
-            a_signed: sa,
-            b_signed: sb,
-            shift,
-            kept,
-        } => {
-            let signs = Signs {
-                saturate,
-                negate,
-                sa,
-                sb,
-                sc: 0,
-                shift,
-            };
+        Instruction::Iadd { operands, saturate, negate, a_signed: sa, b_signed: sb, shift, kept } => {
+            let signs = Signs { saturate, negate, sa, sb, sc: 0, shift };
             of_binary(4, operands, signs, no_truth(), kept)
         }
-        Instruction::Imadd {
-            operands,
-            saturate,
-            negate,
-            a_signed: sa,
-            b_signed: sb,
-            c_signed: sc,
-            shift,
-            kept,
-        } => {
-            let signs = Signs {
-                saturate,
-                negate,
-                sa,
-                sb,
-                sc,
-                shift,
-            };
+        Instruction::Imadd { operands, saturate, negate, a_signed: sa, b_signed: sb, c_signed: sc, shift, kept } => {
+            let signs = Signs { saturate, negate, sa, sb, sc, shift };
             of_ternary(5, operands, 0, signs, kept)
         }
         Instruction::Bfi(x) => of_bitfield(6, x),
@@ -123,14 +92,7 @@ pub fn parts_of(i: Instruction) -> Parts
         Instruction::Shrhi(x) => of_bitfield(10, x),
         Instruction::Asr(x) => of_shift(11, x),
         Instruction::Asrh(x) => of_shift(12, x),
-        Instruction::Bitop {
-            operands,
-            tt0,
-            tt1,
-            tt2,
-            tt3,
-            kept,
-        } => {
+        Instruction::Bitop { operands, tt0, tt1, tt2, tt3, kept } => {
             let truth = Truth { tt0, tt1, tt2, tt3 };
             of_binary(13, operands, no_signs(), truth, kept)
         }

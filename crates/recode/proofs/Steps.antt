@@ -1,0 +1,90 @@
+-- The steps of the two loops. They write the code up to an address, and from there on leave what stood in the buffer.
+use mathlib.Core.Path.{_≡_, sym, ap, ap₂, _∙_}
+use mathlib.Core.List.{List, _++_, append-assoc, append-nil}
+use Prim.Native.Nat.{ℕ, _+_, _-_, _≤_, _<_}
+use native.Mathlib.Nat.{zero-add}
+use native.Mathlib.Omega.{arith}
+use lib.ListN.{length, getD, take, drop, set, length-append, length-drop, drop-of-length-le}
+use lib.Seq.{paste, length-take-le, take-length, take-all, take-at, take-add, drop-at, drop-drop}
+use borrow.Author.Tests.{le-leb}
+use Rattle.bits.proofs.Laws.{Bytes, bytes-drop}
+use Rattle.isa.specs.Decode.{decodeOf}
+use Rattle.isa.specs.declared.answer.Decoded.{Decoded}
+use Rattle.isa.specs.declared.answer.Encoded.{Encoded}
+use Rattle.isa.specs.declared.instruction.Instruction.{Instruction}
+use Rattle.isa.proofs.Found.{found-length}
+use Rattle.encode.specs.Encode.{leftBy}
+use Rattle.encode.proofs.Steps.{paste-more}
+use Rattle.roundtrip.proofs.Round.{decode-encode}
+use Rattle.recode.specs.Recode.{answerOf, leftOf}
+use Rattle.recode.proofs.Same.{recoded-same}
+
+-- the code up to an address, over an old buffer
+abbrev pub done : List ℕ → List ℕ → ℕ → List ℕ
+done code old at = take at code ++ drop at old
+
+-- an instruction of n bytes, encoded into the part of the buffer that starts at the address, leaves the code n bytes further
+pub record Turn (code old out : List ℕ) (at : ℕ) (i : Instruction) (n : ℕ) : Type 0 where
+  pub within : (0 < n) × (at + n ≤ length code)
+  pub encoded : (part : List ℕ) → part ≡ leftBy i (take (length out - at) (drop at out))
+      → take at out ++ (part ++ drop (length out - at) (drop at out)) ≡ done code old (at + n)
+
+module _ (code old out : List ℕ) (at : ℕ) (e : out ≡ done code old at) (h : at ≤ length code) (g : length code ≤ length old) where
+  size : length (take at code) ≡ at
+  size = length-take-le at code h
+
+  pub written : take at out ≡ take at code
+  written = ap (take at) e ∙ take-at (take at code) (drop at old) at size
+
+  kept : drop at out ≡ drop at old
+  kept = ap (drop at) e ∙ drop-at (take at code) (drop at old) at size
+
+  same-size : length out ≡ length old
+  same-size = ap length e ∙ length-append (take at code) (drop at old) ∙ omega (arith, size, length-drop at old)
+
+  -- a byte is copied
+  pub store : at < length code → set out at (getD code at 0) ≡ done code old (at + 1)
+  store l =
+      let f : out ≡ paste old 0 code at = e ∙ ap (λ (k : ℕ). take at code ++ drop k old) (sym (zero-add at)) in
+      paste-more old code out at f (omega arith) l ∙ ap (λ (k : ℕ). take (at + 1) code ++ drop k old) (zero-add (at + 1))
+
+  -- the rest of the code is copied
+  pub copied : (new : List ℕ) → new ≡ code ++ drop (length code) out → new ≡ done code old (length code)
+  copied new c =
+      let k = length code - at in
+      let m : at + k ≡ length code = omega arith in
+      let d : drop (at + k) out ≡ drop (at + k) old =
+            sym (drop-drop k at out) ∙ ap (drop k) kept ∙ drop-drop k at old in
+      c ∙ ap₂ (λ (x y : List ℕ). x ++ y) (sym (take-length code)) (rw m at d)
+
+  -- an instruction is decoded from the part of the code that starts at the address
+  pub turn : Bytes code → (i : Instruction) (n : ℕ) → decodeOf (take (length code - at) (drop at code)) ≡ Decoded.Found i n
+      → Turn code old out at i n
+  turn hs i n d =
+      let c = length-drop at code in
+      let o = length-drop at out in
+      let l = same-size in
+      let t : decodeOf (drop at code) ≡ Decoded.Found i n =
+            ap decodeOf (sym (take-all (length code - at) (drop at code) (omega arith))) ∙ d in
+      let w : (0 < n) × (at + n ≤ length code) = omega (arith, found-length (drop at code) i n t) in
+      let all : length (drop at out) ≤ length out - at = omega arith in
+      let q : leftBy i (drop at out) ≡ take n (drop at code) ++ drop (at + n) old =
+            decode-encode (drop at code) (bytes-drop at code hs) i n t (drop at out) (omega arith) .1
+            ∙ ap (λ (x : List ℕ). take n (drop at code) ++ x) (ap (drop n) kept ∙ drop-drop n at old) in
+      record {
+        within = w;
+        encoded =
+            λ part p.
+            rw (written, drop-of-length-le (drop at out) {i = length out - at} all, append-nil, p,
+              take-all (length out - at) (drop at out) all, q, take-add at n code)
+            (sym (append-assoc (take at code) (take n (drop at code)) (drop (at + n) old)));
+      }
+
+-- all is written: what the call answers and leaves
+pub finished : (code old out : List ℕ) (at : ℕ) → Bytes code → out ≡ done code old at → at ≡ length code → length code ≤ length old
+    → (Encoded.Wrote at ≡ answerOf (length code) (length old)) × (out ≡ leftOf code old)
+finished code old out at hs e h g =
+    let t = le-leb (length code) (length old) g in
+    let f : out ≡ code ++ drop (length code) old =
+          e ∙ ap (done code old) h ∙ ap (λ (x : List ℕ). x ++ drop (length code) old) (take-length code) in
+    (rw (t, h), rw (t, recoded-same code hs) f)
