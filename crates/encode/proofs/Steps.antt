@@ -1,14 +1,12 @@
--- The steps of encoding: copying the bytes, and what each answer leaves.
+-- The steps of encoding: when the instruction is found again, how many bytes are written, and what each answer leaves.
 use mathlib.Core.Path.{_≡_, refl, sym, ap, ap₂, _∙_}
 use mathlib.Core.Bool.{Bool, true, false}
 use mathlib.Core.List.{List, _++_}
 use Prim.Native.Nat.{ℕ, _+_, _≤_, zero-le, _<_}
 use native.Mathlib.Nat.{zero-add, le-of-suc-le-suc}
-use native.Mathlib.Numerals.{add-one}
-use native.Mathlib.Omega.{arith}
 use lib.Dec.{leb, lit<}
-use lib.ListN.{length, getD, take, drop, set}
-use lib.Seq.{take-length, paste, paste-suc}
+use lib.ListN.{length, take, drop}
+use lib.Seq.{sets, sets-eq}
 use borrow.Author.Tests.{eq-eqb, ne-eqb, leb-true}
 use Rattle.bits.specs.Word.{bytesOf}
 use Rattle.bits.proofs.Laws.{length-bytesOf, take-bytes}
@@ -20,11 +18,6 @@ use Rattle.parts.specs.Parts.{partsOf, lengthFor, same}
 use Rattle.parts.specs.declared.Parts.{Parts}
 use Rattle.writing.specs.Write.{wordFor}
 use Rattle.encode.specs.Encode.{lengthOf, bytesFor, isFound, accepts, answerBy, countOf, encodedOf, leftBy}
-
-pub paste-more : (d s out : List ℕ) (j : ℕ) → out ≡ paste d 0 s j → j < length d → j < length s → set out j (getD s j 0) ≡ paste d 0 s (j + 1)
-paste-more d s out j e h g =
-    let h' : 0 + j < length d = omega arith in
-    rw (e, add-one j) (ap (λ (k : ℕ). set (paste d 0 s j) k (getD s j 0)) (sym (zero-add j)) ∙ paste-suc d 0 s j 0 h' g)
 
 pub length-eight : (n w : ℕ) (bs : List ℕ) → bs ≡ bytesOf 8 w → n < 9 → length (take n bs) ≡ n
 length-eight n w bs e h = rw (e, take-bytes 8 n w (le-of-suc-le-suc h)) (length-bytesOf n w)
@@ -67,8 +60,9 @@ module _ (i : Instruction) (p : Parts) (n w : ℕ) (bs : List ℕ) (d : Decoded)
   unfolding encodedOf
   answered out a e = e ∙ ap₂ (λ (u : Bool) (m : ℕ). answerBy u m (length out)) test en
 
-  pub left : (out last : List ℕ) (k : ℕ) (a : Encoded) → a ≡ answerBy t n (length out) → k ≡ countOf a
-      → last ≡ paste out 0 (take k bs) (length (take k bs)) → last ≡ leftBy i out
+  -- n bytes are put, or none
+  pub left : (out last : List ℕ) (k : ℕ) (a : Encoded) → a ≡ answerBy t n (length out) → k ≡ countOf a → last ≡ sets out 0 (take k bs)
+      → last ≡ leftBy i out
   unfolding leftBy
   left out last k a ea ek l = go t test (leb n (length out)) refl (ek ∙ ap countOf ea)
     where
@@ -76,12 +70,13 @@ module _ (i : Instruction) (p : Parts) (n w : ℕ) (bs : List ℕ) (d : Decoded)
       go true eu true z e =
           let f : k ≡ n = rw z at e in
           let y : leb (lengthOf i) (length out) ≡ true = ap (λ (m : ℕ). leb m (length out)) (sym en) ∙ z in
-          let j : length (take n bs) ≡ lengthOf i = length-eight n w bs eb hn ∙ en in
-          let q : paste out 0 (take n bs) (length (take n bs)) ≡ bytesFor i ++ drop (lengthOf i) out =
-                ap₂ (λ (u v : List ℕ). u ++ v) (take-length (take n bs) ∙ bytes) (ap (λ (m : ℕ). drop m out) (zero-add (length (take n bs)) ∙ j)) in
-          rw (← eu, y) (l ∙ ap (λ (m : ℕ). paste out 0 (take m bs) (length (take m bs))) f ∙ q)
+          let j : length (bytesFor i) ≡ lengthOf i = length-bytesOf (lengthOf i) (wordFor i) in
+          let h : 0 + length (bytesFor i) ≤ length out = rw (zero-add (length (bytesFor i)), j) (leb-true (lengthOf i) (length out) y) in
+          let q : sets out 0 (bytesFor i) ≡ bytesFor i ++ drop (lengthOf i) out =
+                sets-eq (bytesFor i) out 0 h ∙ ap (λ (m : ℕ). bytesFor i ++ drop m out) (zero-add (length (bytesFor i)) ∙ j) in
+          rw (← eu, y) (l ∙ ap (λ (m : ℕ). sets out 0 (take m bs)) f ∙ ap (sets out 0) bytes ∙ q)
       go true eu false z e =
           let f : k ≡ 0 = rw z at e in
           let y : leb (lengthOf i) (length out) ≡ false = ap (λ (m : ℕ). leb m (length out)) (sym en) ∙ z in
-          rw (← eu, y) (l ∙ ap (λ (m : ℕ). paste out 0 (take m bs) (length (take m bs))) f)
-      go false eu b z e = rw (← eu) (l ∙ ap (λ (m : ℕ). paste out 0 (take m bs) (length (take m bs))) e)
+          rw (← eu, y) (l ∙ ap (λ (m : ℕ). sets out 0 (take m bs)) f)
+      go false eu b z e = rw (← eu) (l ∙ ap (λ (m : ℕ). sets out 0 (take m bs)) e)

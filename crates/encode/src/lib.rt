@@ -1,10 +1,8 @@
 // Encoding one instruction: its word is put together, decoded again, and compared with what was given.
 ghost use mathlib.Core.Path.{_≡_};
-ghost use Prim.Native.Nat.{_≤_};
-ghost use lib.ListN.{length};
-ghost use lib.Seq.{paste};
 ghost use Rattle.encode.specs.Encode.{isFound, answerBy, countOf, encodedOf, leftBy, encodedFrom, leftFrom};
 
+use bits::piece;
 use form::Spelled;
 use isa::answer::Decoded;
 use isa::answer::Encoded;
@@ -23,17 +21,6 @@ fn is_found(d: Decoded, i: Instruction, n: usize) -> bool
             }
         }
         Decoded::Refused(_) => false,
-    }
-}
-
-fn copy(out: &mut [u8], src: &[u8])
-    requires { ⌜ length (now src) ≤ length (now out) ⌝ }
-    ensures { λ r. ⌜ now (out .exit) ≡ paste (now (out .entry)) 0 (now (src .entry)) (length (now (src .entry))) ⌝ }
-{
-    let mut k = 0;
-    while k < src.len() {
-        out[k] = src[k];
-        k += 1;
     }
 }
 
@@ -68,7 +55,7 @@ pub fn encode(i: Instruction, out: &mut [u8]) -> Encoded
     let b = bits::bytes_of(writing::word_for(i));
     let a = answer(is_found(decode::decode(&b[..n]), i, n), n, out.len());
     let k = written(a);
-    copy(out, &b[..k]);
+    piece::put(out, 0, &b[..k]);
     a
 }
 

@@ -4,7 +4,7 @@ ghost use Prim.Native.Nat.{_+_, _≤_, _<_};
 ghost use lib.ListN.{length};
 ghost use lib.Seq.{sets};
 ghost use Rattle.listing.specs.Listing.{tailAt};
-use crate::piece;
+use bits::piece;
 
 // The words in the order of the diagrams, each between the space before it and the end of its line; and where each starts.
 const TAILS: [u8; 179] =

@@ -6,7 +6,6 @@ ghost use Rattle.listing.specs.Listing.{listedOf, leftBy};
 mod heading;
 mod hex;
 mod line;
-mod piece;
 mod walk;
 
 use isa::answer::Refusal;

@@ -7,7 +7,7 @@ ghost use Rattle.isa.specs.Place.{placeOf};
 ghost use Rattle.listing.specs.Listing.{tailAt, lineOf, endLine, refusedLine};
 use crate::heading;
 use crate::hex;
-use crate::piece;
+use bits::piece;
 use isa::answer;
 use isa::answer::Refusal;
 use isa::instruction;

@@ -1,11 +1,10 @@
--- The steps of the two loops. They write the code up to an address, and from there on leave what stood in the buffer.
+-- The steps of the loop. It writes the code up to an address, and from there on leaves what stood in the buffer.
 use mathlib.Core.Path.{_≡_, sym, ap, ap₂, _∙_}
 use mathlib.Core.List.{List, _++_, append-assoc, append-nil}
 use Prim.Native.Nat.{ℕ, _+_, _-_, _≤_, _<_}
-use native.Mathlib.Nat.{zero-add}
 use native.Mathlib.Omega.{arith}
-use lib.ListN.{length, getD, take, drop, set, length-append, length-drop, drop-of-length-le}
-use lib.Seq.{paste, length-take-le, take-length, take-all, take-at, take-add, drop-at, drop-drop}
+use lib.ListN.{length, take, drop, length-append, length-drop, take-append-drop, drop-of-length-le}
+use lib.Seq.{sets, sets-eq, length-take-le, take-length, take-all, take-at, take-add, drop-at, drop-drop}
 use borrow.Author.Tests.{le-leb}
 use Rattle.bits.proofs.Laws.{Bytes, bytes-drop}
 use Rattle.isa.specs.Decode.{decodeOf}
@@ -14,7 +13,6 @@ use Rattle.isa.specs.declared.answer.Encoded.{Encoded}
 use Rattle.isa.specs.declared.instruction.Instruction.{Instruction}
 use Rattle.isa.proofs.Found.{found-length}
 use Rattle.encode.specs.Encode.{leftBy}
-use Rattle.encode.proofs.Steps.{paste-more}
 use Rattle.roundtrip.proofs.Round.{decode-encode}
 use Rattle.recode.specs.Recode.{answerOf, leftOf}
 use Rattle.recode.proofs.Same.{recoded-same}
@@ -33,7 +31,7 @@ module _ (code old out : List ℕ) (at : ℕ) (e : out ≡ done code old at) (h 
   size : length (take at code) ≡ at
   size = length-take-le at code h
 
-  pub written : take at out ≡ take at code
+  written : take at out ≡ take at code
   written = ap (take at) e ∙ take-at (take at code) (drop at old) at size
 
   kept : drop at out ≡ drop at old
@@ -42,20 +40,29 @@ module _ (code old out : List ℕ) (at : ℕ) (e : out ≡ done code old at) (h 
   same-size : length out ≡ length old
   same-size = ap length e ∙ length-append (take at code) (drop at old) ∙ omega (arith, size, length-drop at old)
 
-  -- a byte is copied
-  pub store : at < length code → set out at (getD code at 0) ≡ done code old (at + 1)
-  store l =
-      let f : out ≡ paste old 0 code at = e ∙ ap (λ (k : ℕ). take at code ++ drop k old) (sym (zero-add at)) in
-      paste-more old code out at f (omega arith) l ∙ ap (λ (k : ℕ). take (at + 1) code ++ drop k old) (zero-add (at + 1))
+  -- the rest of the code fits
+  pub fits-rest : at + length (take (length code - at) (drop at code)) ≤ length out
+  fits-rest =
+      let l = length-drop at code in
+      let m = same-size in
+      rw (take-all (length code - at) (drop at code) (omega arith)) (omega arith)
 
-  -- the rest of the code is copied
-  pub copied : (new : List ℕ) → new ≡ code ++ drop (length code) out → new ≡ done code old (length code)
+  -- and is put
+  pub copied : (new : List ℕ) → new ≡ sets out at (take (length code - at) (drop at code)) → new ≡ done code old (length code)
   copied new c =
       let k = length code - at in
       let m : at + k ≡ length code = omega arith in
+      let l = length-drop at code in
+      let r : take k (drop at code) ≡ drop at code = take-all k (drop at code) (omega arith) in
+      let f : length (drop at code) ≡ k = omega arith in
+      let h : at + length (drop at code) ≤ length out = omega (arith, same-size) in
       let d : drop (at + k) out ≡ drop (at + k) old =
             sym (drop-drop k at out) ∙ ap (drop k) kept ∙ drop-drop k at old in
-      c ∙ ap₂ (λ (x y : List ℕ). x ++ y) (sym (take-length code)) (rw m at d)
+      c
+      ∙ ap (sets out at) r
+      ∙ sets-eq (drop at code) out at h
+      ∙ ap₂ (λ (x y : List ℕ). x ++ drop at code ++ y) written (ap (λ (j : ℕ). drop (at + j) out) f ∙ d ∙ ap (λ (j : ℕ). drop j old) m)
+      ∙ ap (λ (x : List ℕ). x ++ drop (length code) old) (take-append-drop at code ∙ sym (take-length code))
 
   -- an instruction is decoded from the part of the code that starts at the address
   pub turn : Bytes code → (i : Instruction) (n : ℕ) → decodeOf (take (length code - at) (drop at code)) ≡ Decoded.Found i n

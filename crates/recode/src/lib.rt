@@ -1,10 +1,9 @@
 // A kernel, decoded and encoded again.
 ghost use mathlib.Core.Path.{_≡_};
-ghost use mathlib.Core.List.{_++_};
-ghost use Prim.Native.Nat.{_≤_};
-ghost use lib.ListN.{length, take, drop};
+ghost use lib.ListN.{length};
 ghost use Rattle.encode.specs.Encode.{leftBy};
 ghost use Rattle.recode.specs.Recode.{answerOf, leftOf};
+use bits::piece;
 use isa::answer::Decoded;
 use isa::answer::Encoded;
 use isa::answer::Refusal;
@@ -16,19 +15,6 @@ fn encode_again(i: Instruction, out: &mut [u8])
 {
     let form = form::to_bytes(i);
     encode::encode_form(&form, out);
-}
-
-// Copies the code from an address on. What comes before it stands in the buffer already.
-fn copy_rest(code: &[u8], out: &mut [u8], start: usize)
-    requires { ⌜ (start ≤ length (now code)) × (length (now code) ≤ length (now out))
-        × (take start (now out) ≡ take start (now code)) ⌝ }
-    ensures { λ r. ⌜ now (out .exit) ≡ now (code .entry) ++ drop (length (now (code .entry))) (now (out .entry)) ⌝ }
-{
-    let mut at = start;
-    while at < code.len() {
-        out[at] = code[at];
-        at += 1;
-    }
 }
 
 // Writes the code to the start of the buffer, instruction by instruction, each decoded and encoded again; from the first refusal
@@ -49,7 +35,7 @@ pub fn recode(code: &[u8], out: &mut [u8]) -> Encoded
                 at += n;
             }
             Decoded::Refused(_) => {
-                copy_rest(code, out, at);
+                piece::put(out, at, &code[at..]);
                 at = code.len();
             }
         }

@@ -18,8 +18,12 @@ use Rattle.isa.specs.declared.instruction.Instruction.{Instruction}
 use Rattle.isa.proofs.Forms.{and-left, and-right}
 use Rattle.parts.specs.Parts.{same}
 use Rattle.parts.proofs.Back.{same-is, same-self}
+use Rattle.form.specs.Fits.{Fits}
+use Rattle.form.specs.Form.{formOf}
+use Rattle.form.specs.declared.Spelled.{Spelled}
+use Rattle.form.proofs.Form.{form-spelled}
 use Rattle.writing.specs.Write.{wordFor}
-use Rattle.encode.specs.Encode.{lengthOf, bytesFor, isFound, accepts, encodedOf, leftBy}
+use Rattle.encode.specs.Encode.{lengthOf, bytesFor, isFound, accepts, encodedOf, leftBy, encodedSpelled, leftSpelled, encodedFrom, leftFrom}
 use Rattle.roundtrip.proofs.Back.{length-back, bytes-back, first-decodes}
 
 -- ---- decode, then encode
@@ -99,3 +103,10 @@ pub accepts-exactly : (i : Instruction) → (accepts i ≡ true) ↔ Decodes i
 accepts-exactly i =
     ((λ a. (bytesFor i, lengthOf i, bytes-bytesOf (lengthOf i) (wordFor i), accepted-decodes i a)),
       (λ d. decoded-accepted (d .0) (d .2) i (d .1) (d .3)))
+
+-- ---- by way of the byte form
+
+-- encoding from the byte form of an instruction is encoding the instruction
+pub form-encode : (i : Instruction) → Fits i → (out : List ℕ) → (encodedFrom (formOf i) out ≡ encodedOf i out) × (leftFrom (formOf i) out ≡ leftBy i out)
+form-encode i h out =
+    (ap (λ (x : Spelled). encodedSpelled x out) (form-spelled i h), ap (λ (x : Spelled). leftSpelled x out) (form-spelled i h))

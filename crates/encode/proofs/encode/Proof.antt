@@ -44,21 +44,21 @@ array-share-prefix-b-2 c =
     (length (c .before .before .before .before .before .before .before .before .before .before .before .args .out .now)) _ _ (c .before .before .answer .ensures) (c .before .written .ensures) in
     omega arith
 
-slice-aggregate-copy : tie.Need-slice-aggregate-copy
-slice-aggregate-copy c =
+slice-aggregate-put : tie.Need-slice-aggregate-put
+slice-aggregate-put c =
     let s =
           count-small (c .before .before .before .before .before .before .before .before .before .before .before .before .args .i) _ _ _ _ _ _ (c .before .before .before .before .before .before .before .before .before .before .parts-of .ensures) (c .before .before .before .before .before .before .before .before .before .length-of .ensures) (c .before .before .before .before .before .before .before .before .word-for .ensures) (c .before .before .before .before .before .before .before .bytes-of .ensures)
     (c .before .before .before .before .before .decode .ensures) (c .before .before .before .before .is-found .ensures)
     (length (c .before .before .before .before .before .before .before .before .before .before .before .before .args .out .now)) _ _ (c .before .before .before .answer .ensures) (c .before .before .written .ensures) in
     sym (length-eight _ _ _ (c .before .before .before .before .before .before .before .bytes-of .ensures) (s .0))
 
-copy-requires : tie.Need-copy-requires
-copy-requires c κs =
+put-requires : tie.Need-put-requires
+put-requires c κs =
     let s =
           count-small (c .before .before .before .before .before .before .before .before .before .before .before .before .args .i) _ _ _ _ _ _ (c .before .before .before .before .before .before .before .before .before .before .parts-of .ensures) (c .before .before .before .before .before .before .before .before .before .length-of .ensures) (c .before .before .before .before .before .before .before .before .word-for .ensures) (c .before .before .before .before .before .before .before .bytes-of .ensures)
     (c .before .before .before .before .before .decode .ensures) (c .before .before .before .before .is-found .ensures)
     (length (c .before .before .before .before .before .before .before .before .before .before .before .before .args .out .now)) _ _ (c .before .before .before .answer .ensures) (c .before .before .written .ensures) in
-    rw (length-eight _ _ _ (c .before .before .before .before .before .before .before .bytes-of .ensures) (s .0)) (s .1)
+    rw (length-eight _ _ _ (c .before .before .before .before .before .before .before .bytes-of .ensures) (s .0)) (omega arith)
 
 same-length : tie.Need-same-length
 same-length c = search needs
@@ -70,7 +70,7 @@ returns c =
       (c .before .before .before .before .before .before .before .before .before .before .before .before .before .before .before .args .out .now) _ (c .before .before .before .before .before .before .answer .ensures),
       left (c .before .before .before .before .before .before .before .before .before .before .before .before .before .before .before .args .i) _ _ _ _ _ _ (c .before .before .before .before .before .before .before .before .before .before .before .before .before .parts-of .ensures) (c .before .before .before .before .before .before .before .before .before .before .before .before .length-of .ensures) (c .before .before .before .before .before .before .before .before .before .before .before .word-for .ensures) (c .before .before .before .before .before .before .before .before .before .before .bytes-of .ensures)
     (c .before .before .before .before .before .before .before .before .decode .ensures) (c .before .before .before .before .before .before .before .is-found .ensures)
-      (c .before .before .before .before .before .before .before .before .before .before .before .before .before .before .before .args .out .now) _ _ _ (c .before .before .before .before .before .before .answer .ensures) (c .before .before .before .before .before .written .ensures) (c .before .before .copy .ensures))
+      (c .before .before .before .before .before .before .before .before .before .before .before .before .before .before .before .args .out .now) _ _ _ (c .before .before .before .before .before .before .answer .ensures) (c .before .before .before .before .before .written .ensures) (c .before .before .put .ensures))
 
 pub encode-spec : {M : Type 1} → statement M
 encode-spec =
@@ -87,7 +87,7 @@ encode-spec =
     answer-requires
     written-requires
     array-share-prefix-b-2
-    slice-aggregate-copy
-    copy-requires
+    slice-aggregate-put
+    put-requires
     same-length
     returns)

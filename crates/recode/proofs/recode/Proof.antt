@@ -5,7 +5,7 @@ use native.Mathlib.Omega.{arith}
 use lib.ListN.{length}
 use borrow.Author.Tests.{lt-leb}
 use Rattle.bits.proofs.Laws.{Bytes}
-use Rattle.recode.proofs.Steps.{done, Turn, turn, written, copied, finished}
+use Rattle.recode.proofs.Steps.{done, Turn, turn, fits-rest, copied, finished}
 use borrow.Author.Needs.{needs}
 use Rattle.recode.proofs.recode.Statement.{statement}
 use Rattle.recode.proofs.recode.Tie as tie
@@ -79,23 +79,30 @@ loop-again c =
 enum-told : tie.Need-enum-told Inv-loop μ-loop
 enum-told c = search needs
 
-copy-rest-requires : tie.Need-copy-rest-requires Inv-loop μ-loop
-copy-rest-requires c κs =
-    let l = c .before .before .before .before .before .before in
+sub-put : tie.Need-sub-put Inv-loop μ-loop
+sub-put c = omega arith
+
+part-put-start : tie.Need-part-put-start Inv-loop μ-loop
+part-put-start c = omega arith
+
+part-put-end : tie.Need-part-put-end Inv-loop μ-loop
+part-put-end c = omega arith
+
+put-requires : tie.Need-put-requires Inv-loop μ-loop
+put-requires c κs =
+    let l = c .before .before .before .before .before .before .before in
     let a = l .before .before .before .before .args in
-    let v = l .loop .inv in
-    (v .1, omega arith, written (a .code .now) (a .out .now) (l .loop .out) (l .loop .at) (v .0) (v .1) (omega arith))
+    fits-rest (a .code .now) (a .out .now) (l .loop .out) (l .loop .at) (l .loop .inv .0) (l .loop .inv .1) (omega arith)
 
 loop-less-2 : tie.Need-loop-less-2 Inv-loop μ-loop
 loop-less-2 c = omega arith
 
 loop-again-2 : tie.Need-loop-again-2 Inv-loop μ-loop
 loop-again-2 c =
-    let r = c .before .before in
-    let l = r .before .before .before .before .before .before .before in
+    let l = c .before .before .before .before .before .before .before .before .before .before in
     let a = l .before .before .before .before .args in
     let v = l .loop .inv in
-    (copied (a .code .now) (a .out .now) (l .loop .out) (l .loop .at) (v .0) (v .1) (omega arith) _ (r .copy-rest .ensures),
+    (copied (a .code .now) (a .out .now) (l .loop .out) (l .loop .at) (v .0) (v .1) (omega arith) _ (c .before .before .put .ensures),
       omega arith,
       omega arith)
 
@@ -130,7 +137,10 @@ recode-spec =
     loop-less
     loop-again
     enum-told
-    copy-rest-requires
+    sub-put
+    part-put-start
+    part-put-end
+    put-requires
     loop-less-2
     loop-again-2
     same-length

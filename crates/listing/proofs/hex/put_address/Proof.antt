@@ -6,7 +6,7 @@ use native.Mathlib.Omega.{arith}
 use lib.ListN.{length-set}
 use Rattle.isa.specs.Text.{ascii}
 use Rattle.listing.specs.Listing.{hexByte}
-use Rattle.listing.proofs.Pieces.{after}
+use Rattle.bits.proofs.Pieces.{after}
 use borrow.Author.Needs.{needs}
 use Rattle.listing.proofs.hex.put_address.Statement.{statement}
 use Rattle.listing.proofs.hex.put_address.Tie as tie

@@ -8,7 +8,7 @@ use native.Mathlib.Omega.{arith}
 use lib.ListN.{length, getD, drop, drop-of-length-le}
 use lib.Seq.{sets, drop-cons}
 use Rattle.listing.specs.Listing.{hexByte, hexBytes}
-use Rattle.listing.proofs.Pieces.{after}
+use Rattle.bits.proofs.Pieces.{after}
 use Rattle.listing.proofs.hex.put_bytes.Statement.{statement}
 use Rattle.listing.proofs.hex.put_bytes.Tie as tie
 

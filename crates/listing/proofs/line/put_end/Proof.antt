@@ -4,7 +4,7 @@ use mathlib.Core.List.{_++_}
 use Prim.Native.Nat.{_+_}
 use Rattle.isa.specs.Text.{ascii}
 use Rattle.listing.specs.Listing.{hexAddress, endLine}
-use Rattle.listing.proofs.Pieces.{after}
+use Rattle.bits.proofs.Pieces.{after}
 use borrow.Author.Needs.{needs}
 use Rattle.listing.proofs.line.put_end.Statement.{statement}
 use Rattle.listing.proofs.line.put_end.Tie as tie

@@ -8,7 +8,8 @@ use lib.Seq.{sets}
 use Rattle.isa.specs.Text.{ascii}
 use Rattle.isa.specs.Place.{placeOf}
 use Rattle.listing.specs.Listing.{hexAddress, hexBytes, tailAt, lineOf}
-use Rattle.listing.proofs.Pieces.{after, length-hexBytes}
+use Rattle.bits.proofs.Pieces.{after}
+use Rattle.listing.proofs.Pieces.{length-hexBytes}
 use Rattle.isa.proofs.Placed.{place-below}
 use borrow.Author.Needs.{needs}
 use Rattle.listing.proofs.line.put_line.Statement.{statement}

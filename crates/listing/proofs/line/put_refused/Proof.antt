@@ -7,7 +7,8 @@ use lib.Seq.{sets}
 use Rattle.isa.specs.Text.{ascii}
 use Rattle.isa.specs.Refusal.{numberOf}
 use Rattle.listing.specs.Listing.{digit, hexAddress, refusedLine}
-use Rattle.listing.proofs.Pieces.{after, number-below}
+use Rattle.bits.proofs.Pieces.{after}
+use Rattle.listing.proofs.Pieces.{number-below}
 use borrow.Author.Needs.{needs}
 use Rattle.listing.proofs.line.put_refused.Statement.{statement}
 use Rattle.listing.proofs.line.put_refused.Tie as tie

@@ -7,7 +7,8 @@ use lib.ListN.{length, take, drop}
 use Rattle.listing.specs.Walk.{limit}
 use Rattle.listing.specs.Listing.{listingOf, lineOf, endLine, refusedLine}
 use lib.Seq.{sets}
-use Rattle.listing.proofs.Pieces.{after, length-line}
+use Rattle.bits.proofs.Pieces.{after}
+use Rattle.listing.proofs.Pieces.{length-line}
 use Rattle.listing.proofs.Left.{left, left-all, Step, step, left-refused, left-end}
 use borrow.Author.Needs.{needs}
 use Rattle.listing.proofs.walk.write.Statement.{statement}

@@ -7,29 +7,29 @@ use native.Mathlib.Numerals.{add-one}
 use native.Mathlib.Omega.{arith}
 use lib.ListN.{length, getD, drop, set, length-set, drop-of-length-le}
 use lib.Seq.{sets, drop-cons}
-use Rattle.listing.proofs.Pieces.{after}
-use Rattle.listing.proofs.piece.put.Statement.{statement}
-use Rattle.listing.proofs.piece.put.Tie as tie
+use Rattle.bits.proofs.Pieces.{after}
+use Rattle.bits.proofs.piece.put.Statement.{statement}
+use Rattle.bits.proofs.piece.put.Tie as tie
 
 abbrev Inv-loop : tie.InvT-loop
-Inv-loop text₀ n piece i₀ text i =
-    (i ≤ length piece) × (length text ≡ length text₀)
-    × (sets text (n + i) (drop i piece) ≡ sets text₀ n piece)
+Inv-loop out₀ n piece i₀ out i =
+    (i ≤ length piece) × (length out ≡ length out₀)
+    × (sets out (n + i) (drop i piece) ≡ sets out₀ n piece)
 
 abbrev μ-loop : tie.MeasureT-loop
-μ-loop text₀ n piece i₀ text i = length piece - i
+μ-loop out₀ n piece i₀ out i = length piece - i
 
 loop-holds : tie.Need-loop-holds Inv-loop μ-loop
-loop-holds c = (omega arith, refl, ap (λ (k : ℕ). sets (c .args .text .now) k (c .args .piece .now)) (add-zero (c .args .n)))
+loop-holds c = (omega arith, refl, ap (λ (k : ℕ). sets (c .args .out .now) k (c .args .piece .now)) (add-zero (c .args .n)))
 
-shared-slice-read-text : tie.Need-shared-slice-read-text Inv-loop μ-loop
-shared-slice-read-text c = omega arith
+shared-slice-read-out : tie.Need-shared-slice-read-out Inv-loop μ-loop
+shared-slice-read-out c = omega arith
 
-add-text : tie.Need-add-text Inv-loop μ-loop
-add-text c = omega arith
+add-out : tie.Need-add-out Inv-loop μ-loop
+add-out c = omega arith
 
-slice-write-text : tie.Need-slice-write-text Inv-loop μ-loop
-slice-write-text c = omega arith
+slice-write-out : tie.Need-slice-write-out Inv-loop μ-loop
+slice-write-out c = omega arith
 
 add-i : tie.Need-add-i Inv-loop μ-loop
 add-i c = omega arith
@@ -45,8 +45,8 @@ loop-again c =
     let b = getD s (l .i) 0 in
     let m = a .n + l .i in (
       omega arith,
-      length-set (l .text) m b ∙ l .inv .1,
-      after (b ∷ []) (drop (l .i + 1) s) (drop (l .i) s) (l .text) (set (l .text) m b) m (a .n + (l .i + 1)) refl
+      length-set (l .out) m b ∙ l .inv .1,
+      after (b ∷ []) (drop (l .i + 1) s) (drop (l .i) s) (l .out) (set (l .out) m b) m (a .n + (l .i + 1)) refl
           (omega arith) (rw (add-one (l .i)) (drop-cons s (l .i) 0 (omega arith)))
           ∙ l .inv .2,
     )
@@ -59,7 +59,7 @@ returns c =
     let l = c .before .loop in
     let a = c .before .before .args in
     let e : drop (l .i) (a .piece .now) ≡ [] = drop-of-length-le (a .piece .now) {i = l .i} (omega arith) in
-    ap (λ (s : List ℕ). sets (l .text) (a .n + l .i) s) (sym e) ∙ l .inv .2
+    ap (λ (s : List ℕ). sets (l .out) (a .n + l .i) s) (sym e) ∙ l .inv .2
 
 pub put-spec : {M : Type 1} → statement M
 put-spec =
@@ -68,9 +68,9 @@ put-spec =
     Inv-loop
     μ-loop
     loop-holds
-    shared-slice-read-text
-    add-text
-    slice-write-text
+    shared-slice-read-out
+    add-out
+    slice-write-out
     add-i
     loop-less
     loop-again
