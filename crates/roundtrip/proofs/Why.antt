@@ -30,7 +30,7 @@ use Rattle.isa.specs.declared.instruction.Instruction.{Instruction}
 use Rattle.isa.proofs.Placed.{length-rows, place-below, found-place}
 use Rattle.writing.specs.Write.{Named, numberIn, put, fieldsFor, keptOf, wordFor}
 use Rattle.encode.specs.Encode.{lengthOf, bytesFor, accepts, answerBy, encodedOf, leftBy}
-use Rattle.roundtrip.specs.Reasons.{Held, HoldsDst, HoldsMov, Within, Encodable}
+use Rattle.roundtrip.specs.Reasons.{Held, HoldsDst, HoldsMov, Within, FieldsFit, KeptFits, NoAbsentBit, Finds, Encodable}
 use Rattle.roundtrip.proofs.Operands.{dst-back}
 use Rattle.roundtrip.proofs.Words.{Agree}
 use Rattle.roundtrip.proofs.Placing.{or-and, kept-off, separate, all-separate, clear, Settled, settled, has-kept, has-settled, has-clear}
@@ -176,15 +176,36 @@ encodable-accepted i e = decoded-accepted (bytesFor i) (bytes-bytesOf (lengthOf 
 pub accepts-encodable : (i : Instruction) → (accepts i ≡ true) ↔ Encodable i
 accepts-encodable i = (accepted-encodable i, encodable-accepted i)
 
--- an instruction that has not all of these is refused with 8, and the buffer is left as it was
-pub refused-for : (i : Instruction) → (Encodable i → ⊥) → (out : List ℕ)
-    → (encodedOf i out ≡ Encoded.Refused Refusal.NoEncoding) × (leftBy i out ≡ out)
+-- ---- what has one of the reasons is refused with 8
+
+-- whatever the buffer is, the answer is 8 and it is left as it was
+abbrev pub Refused8 : Instruction → Type 0
+Refused8 i = (out : List ℕ) → (encodedOf i out ≡ Encoded.Refused Refusal.NoEncoding) × (leftBy i out ≡ out)
+
+pub refused-for : (i : Instruction) → (Encodable i → ⊥) → Refused8 i
 unfolding encodedOf leftBy
 refused-for i h out = go (accepts i) refl
   where
     go : (b : Bool) → accepts i ≡ b → (encodedOf i out ≡ Encoded.Refused Refusal.NoEncoding) × (leftBy i out ≡ out)
     go true e = absurd (h (accepted-encodable i e))
     go false e = (rw e, rw e)
+
+pub field-too-wide : (i : Instruction) → (FieldsFit i → ⊥) → Refused8 i
+field-too-wide i h = refused-for i (λ e. h (e .fields))
+
+pub kept-too-wide : (i : Instruction) → (KeptFits i → ⊥) → Refused8 i
+kept-too-wide i h = refused-for i (λ e. h (e .kept))
+
+-- an operand or a condition that its place can't hold, or that 4 refuses
+pub not-held : (i : Instruction) → (Held i → ⊥) → Refused8 i
+not-held i h = refused-for i (λ e. h (e .held))
+
+pub absent-bit : (i : Instruction) → (NoAbsentBit i → ⊥) → Refused8 i
+absent-bit i h = refused-for i (λ e. h (e .absent))
+
+-- the finding rule, given the bytes alone, gives them to another instruction
+pub found-other : (i : Instruction) → (Finds i → ⊥) → Refused8 i
+found-other i h = refused-for i (λ e. h (e .finds))
 
 abbrev Numbered : Encoded → Type 0
 Numbered (Encoded.Wrote n) = Unit {0}

@@ -23,7 +23,7 @@ use Rattle.isa.specs.declared.instruction.Instruction.{Instruction}
 
 -- ---- operands: the joined number v and the flags t
 
--- Dt bit 0
+-- Dt bit 0. A destination has no discard: 2 is more than the bit can say
 abbrev pub cacheBit : Hint → ℕ
 cacheBit Hint.None = 0
 cacheBit Hint.Cache = 1
