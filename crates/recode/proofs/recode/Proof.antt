@@ -92,7 +92,8 @@ put-requires : tie.Need-put-requires Inv-loop μ-loop
 put-requires c κs =
     let l = c .before .before .before .before .before .before .before in
     let a = l .before .before .before .before .args in
-    fits-rest (a .code .now) (a .out .now) (l .loop .out) (l .loop .at) (l .loop .inv .0) (l .loop .inv .1) (omega arith)
+    let f = fits-rest (a .code .now) (a .out .now) (l .loop .out) (l .loop .at) (l .loop .inv .0) (l .loop .inv .1) (omega arith) in
+    omega arith
 
 loop-less-2 : tie.Need-loop-less-2 Inv-loop μ-loop
 loop-less-2 c = omega arith
