@@ -9,6 +9,9 @@ pub enum Refusal {
     CutShort,
     NoDiagram,
     NoMeaning,
+    NoRegister,
+    NoSpecial,
+    BadTarget,
     NoEncoding,
     ShortBuffer,
 }
@@ -46,6 +49,9 @@ pub fn number(r: Refusal) -> u8
         Refusal::CutShort => 2,
         Refusal::NoDiagram => 3,
         Refusal::NoMeaning => 4,
+        Refusal::NoRegister => 5,
+        Refusal::NoSpecial => 6,
+        Refusal::BadTarget => 7,
         Refusal::NoEncoding => 8,
         Refusal::ShortBuffer => 9,
     }

@@ -79,7 +79,10 @@ named c =
     cond (eqb c 49) Refusal.BadSize
     (cond (eqb c 50) Refusal.CutShort
     (cond (eqb c 51) Refusal.NoDiagram
-    (cond (eqb c 52) Refusal.NoMeaning (cond (eqb c 56) Refusal.NoEncoding Refusal.ShortBuffer))))
+    (cond (eqb c 52) Refusal.NoMeaning
+    (cond (eqb c 53) Refusal.NoRegister
+    (cond (eqb c 54) Refusal.NoSpecial
+    (cond (eqb c 55) Refusal.BadTarget (cond (eqb c 56) Refusal.NoEncoding Refusal.ShortBuffer)))))))
 
 named-digit : (r : Refusal) → named (digit (numberOf r)) ≡ r
 unfolding named
@@ -87,6 +90,9 @@ named-digit Refusal.BadSize = refl
 named-digit Refusal.CutShort = refl
 named-digit Refusal.NoDiagram = refl
 named-digit Refusal.NoMeaning = refl
+named-digit Refusal.NoRegister = refl
+named-digit Refusal.NoSpecial = refl
+named-digit Refusal.BadTarget = refl
 named-digit Refusal.NoEncoding = refl
 named-digit Refusal.ShortBuffer = refl
 

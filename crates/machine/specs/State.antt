@@ -1,0 +1,18 @@
+-- The state of a run: the register words and the mask of the 32 threads, and the address. Follows "Sizes of what is lent".
+use Prim.Native.Nat.{ℕ}
+use mathlib.Core.List.{List}
+
+-- what the threads have: all the lent register words, and a mask bit each
+pub record Threads : Type 0 where
+  pub registers : List ℕ
+  pub mask : ℕ
+
+pub record State : Type 0 where
+  pub threads : Threads
+  pub address : ℕ
+
+abbrev pub threadsAt : List ℕ → ℕ → Threads
+threadsAt registers mask = record { registers = registers; mask = mask }
+
+abbrev pub stateAt : Threads → ℕ → State
+stateAt threads address = record { threads = threads; address = address }

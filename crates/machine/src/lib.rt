@@ -1,0 +1,3 @@
+// The lockstep machine: what an instruction reads, and what a run answers. What it does stands in specs/.
+pub mod answer;
+pub mod input;
