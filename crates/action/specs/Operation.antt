@@ -50,13 +50,13 @@ pub record Sizes : Type 0 where
   pub d : ℕ
   pub factor : ℕ
 
-abbrev sizes : ℕ → ℕ → ℕ → ℕ → ℕ → Sizes
+abbrev pub sizes : ℕ → ℕ → ℕ → ℕ → ℕ → Sizes
 sizes a b c d factor = record { a = a; b = b; c = c; d = d; factor = factor }
 
-abbrev anySizes : Sizes
+abbrev pub anySizes : Sizes
 anySizes = sizes 64 64 64 64 64
 
-abbrev testSizes : Test → Sizes
+abbrev pub testSizes : Test → Sizes
 testSizes o = sizes (o .asize) (o .bsize) 16 64 64
 
 abbrev pub sizesBy : Operation → Sizes

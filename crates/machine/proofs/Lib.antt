@@ -1,2 +1,7 @@
 pub mod Tab
 pub mod Masks
+pub mod Steps
+pub mod Sizes
+pub mod Runs
+pub mod Records
+pub mod Examples

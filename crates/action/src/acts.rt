@@ -1,0 +1,156 @@
+// Actions put together from operands.
+ghost use mathlib.Core.Path.{_≡_};
+ghost use Rattle.machine.specs.Words.{destinationSize};
+ghost use Rattle.machine.specs.Meaning.{none, input, size};
+ghost use Rattle.machine.specs.declared.input.Input.{Input as SpecsInput};
+ghost use Rattle.action.specs.Action.{writesBy, sumFor, productFor, testFor};
+ghost use Rattle.action.specs.declared.Action.{Action};
+ghost use Rattle.action.specs.declared.operation.Operation.{Operation};
+use crate::Action;
+use crate::operation::Operation;
+use crate::operation::Sum;
+use crate::operation::Test;
+use isa::instruction::Compare;
+use isa::operand::Binary;
+use isa::operand::Compared;
+use isa::operand::Destination;
+use isa::operand::Dst;
+use isa::operand::Source;
+use isa::operand::Src;
+use isa::operand::Ternary;
+use isa::operand::Unary;
+use machine::input::Input;
+
+fn source_size(s: Src) -> u8
+    ensures { λ r. ⌜ r ≡ size s ⌝ }
+{
+    let source = s.source;
+    match source {
+        Source::Half(_) => 16,
+        Source::Register(_) => 32,
+        Source::Pair(_) => 64,
+        Source::UniformHalf(_) => 16,
+        Source::UniformRegister(_) => 32,
+        Source::UniformPair(_) => 64,
+        Source::Immediate(_) => 16,
+    }
+}
+
+fn destination_size(d: Dst) -> u8
+    ensures { λ r. ⌜ r ≡ destinationSize (d .destination) ⌝ }
+{
+    let destination = d.destination;
+    match destination {
+        Destination::Half(_) => 16,
+        Destination::Register(_) => 32,
+        Destination::Pair(_) => 64,
+    }
+}
+
+pub fn moves(d: Dst, imm: u32) -> Action
+    ensures { λ r. ⌜ r ≡ writesBy d none none none (Operation.Mov imm) ⌝ }
+{
+    let destination = d.destination;
+    Action::Writes { d: destination, a: Input::Nothing, b: Input::Nothing, c: Input::Nothing, operation: Operation::Mov(imm) }
+}
+
+pub fn special(d: Dst, sr: u8) -> Action
+    ensures { λ r. ⌜ r ≡ writesBy d (SpecsInput.Special sr) none none Operation.GetSr ⌝ }
+{
+    let destination = d.destination;
+    Action::Writes { d: destination, a: Input::Special(sr), b: Input::Nothing, c: Input::Nothing, operation: Operation::GetSr }
+}
+
+pub fn unary(o: Unary, operation: Operation) -> Action
+    ensures { λ r. ⌜ r ≡ writesBy (o .d) (input (o .a)) none none operation ⌝ }
+{
+    let d = o.d;
+    let destination = d.destination;
+    let a = o.a;
+    Action::Writes { d: destination, a: Input::Operand(a), b: Input::Nothing, c: Input::Nothing, operation }
+}
+
+pub fn binary(o: Binary, operation: Operation) -> Action
+    ensures { λ r. ⌜ r ≡ writesBy (o .d) (input (o .a)) (input (o .b)) none operation ⌝ }
+{
+    let d = o.d;
+    let destination = d.destination;
+    let a = o.a;
+    let b = o.b;
+    Action::Writes { d: destination, a: Input::Operand(a), b: Input::Operand(b), c: Input::Nothing, operation }
+}
+
+pub fn ternary(o: Ternary, operation: Operation) -> Action
+    ensures { λ r. ⌜ r ≡ writesBy (o .d) (input (o .a)) (input (o .b)) (input (o .c)) operation ⌝ }
+{
+    let d = o.d;
+    let destination = d.destination;
+    let a = o.a;
+    let b = o.b;
+    let c = o.c;
+    Action::Writes { d: destination, a: Input::Operand(a), b: Input::Operand(b), c: Input::Operand(c), operation }
+}
+
+pub fn asr(o: Binary) -> Action
+    ensures { λ r. ⌜ r ≡ writesBy (o .d) (input (o .a)) (input (o .b)) none (Operation.Asr (size (o .a))) ⌝ }
+{
+    let a = o.a;
+    let size = source_size(a);
+    binary(o, Operation::Asr(size))
+}
+
+pub fn asrh(o: Binary) -> Action
+    ensures { λ r. ⌜ r ≡ writesBy (o .d) (input (o .a)) (input (o .b)) none (Operation.Asrh (size (o .a))) ⌝ }
+{
+    let a = o.a;
+    let size = source_size(a);
+    binary(o, Operation::Asrh(size))
+}
+
+pub fn adds(o: Binary, saturate: u8, negate: u8, asigned: u8, bsigned: u8, shift: u8) -> Action
+    ensures { λ r. ⌜ r ≡ writesBy (o .d) (input (o .a)) (input (o .b)) none (Operation.Iadd (sumFor o saturate negate asigned bsigned shift)) ⌝ }
+{
+    let a = o.a;
+    let b = o.b;
+    let d = o.d;
+    let asize = source_size(a);
+    let bsize = source_size(b);
+    let dsize = destination_size(d);
+    let sum = Sum { saturate, negate, asigned, bsigned, csigned: 0, shift, asize, bsize, csize: 0, dsize };
+    binary(o, Operation::Iadd(sum))
+}
+
+pub fn multiplies(o: Ternary, saturate: u8, negate: u8, asigned: u8, bsigned: u8, csigned: u8, shift: u8) -> Action
+    ensures { λ r. ⌜ r ≡ writesBy (o .d) (input (o .a)) (input (o .b)) (input (o .c))
+        (Operation.Imadd (productFor o saturate negate asigned bsigned csigned shift)) ⌝ }
+{
+    let a = o.a;
+    let b = o.b;
+    let c = o.c;
+    let d = o.d;
+    let asize = source_size(a);
+    let bsize = source_size(b);
+    let csize = source_size(c);
+    let dsize = destination_size(d);
+    let sum = Sum { saturate, negate, asigned, bsigned, csigned, shift, asize, bsize, csize, dsize };
+    ternary(o, Operation::Imadd(sum))
+}
+
+pub fn test(o: Compare) -> Test
+    ensures { λ r. ⌜ r ≡ testFor o ⌝ }
+{
+    let operands = o.operands;
+    let a = operands.a;
+    let b = operands.b;
+    let asize = source_size(a);
+    let bsize = source_size(b);
+    Test { cc: o.cc, ccn: o.ccn, asize, bsize, n: o.n }
+}
+
+pub fn masks(o: Compared, operation: Operation) -> Action
+    ensures { λ r. ⌜ r ≡ Action.Masks (input (o .a)) (input (o .b)) operation ⌝ }
+{
+    let a = o.a;
+    let b = o.b;
+    Action::Masks { a: Input::Operand(a), b: Input::Operand(b), operation }
+}

@@ -1,0 +1,62 @@
+-- What it says of the numbers that a call is arranged.
+use mathlib.Core.Path.{_≡_}
+use mathlib.Core.Bool.{Bool, true, false}
+use mathlib.Core.List.{List}
+use Prim.Native.Nat.{ℕ, _*_, _%_, _≤_}
+use native.Mathlib.Omega.{arith}
+use borrow.Author.Tests.{eqb-true, leb-true}
+use lib.Dec.{eqb, leb}
+use lib.ListN.{length}
+use Rattle.machine.specs.Meaning.{both}
+use Rattle.machine.specs.Run.{Call, columns, codeLimit, budgetLimit, arranged}
+
+-- 32 x n words, n from fewest to most
+pub record Columns (fewest most : ℕ) (words : List ℕ) : Type 0 where
+  pub whole : length words % 32 ≡ 0
+  pub least : 32 * fewest ≤ length words
+  pub greatest : length words ≤ 32 * most
+
+pub record Sizes (c : Call) : Type 0 where
+  pub code : length (c .code) ≤ codeLimit
+  pub registers : Columns 1 128 (c .registers)
+  pub uniforms : length (c .uniforms) ≡ 256
+  pub specials : Columns 0 256 (c .specials)
+  pub some : 1 ≤ c .budget
+  pub budget : c .budget ≤ budgetLimit
+  pub even : c .start % 2 ≡ 0
+  pub inside : c .start ≤ length (c .code)
+  pub room : 16 * c .budget ≤ length (c .records)
+
+parts : (p q : Bool) → both p q ≡ true → (p ≡ true) × (q ≡ true)
+parts true true e = (e, e)
+parts true false e = let z : _≡_ {A = ℕ} 0 1 = cc in absurd (omega arith)
+parts false q e = let z : _≡_ {A = ℕ} 0 1 = cc in absurd (omega arith)
+
+in-columns : (fewest most : ℕ) (words : List ℕ) → columns fewest most words ≡ true → Columns fewest most words
+in-columns fewest most words e =
+    let a = parts (eqb (length words % 32) 0) _ e in
+    let b = parts (leb (32 * fewest) (length words)) _ (a .1) in
+    record { whole = eqb-true _ _ (a .0); least = leb-true _ _ (b .0); greatest = leb-true _ _ (b .1) }
+
+pub sizes : (c : Call) → arranged c ≡ true → Sizes c
+unfolding arranged
+sizes c e =
+    let code = parts (leb (length (c .code)) codeLimit) _ e in
+    let registers = parts (columns 1 128 (c .registers)) _ (code .1) in
+    let uniforms = parts (eqb (length (c .uniforms)) 256) _ (registers .1) in
+    let specials = parts (columns 0 256 (c .specials)) _ (uniforms .1) in
+    let some = parts (leb 1 (c .budget)) _ (specials .1) in
+    let budget = parts (leb (c .budget) budgetLimit) _ (some .1) in
+    let even = parts (eqb (c .start % 2) 0) _ (budget .1) in
+    let inside = parts (leb (c .start) (length (c .code))) _ (even .1) in
+    record {
+      code = leb-true _ _ (code .0);
+      registers = in-columns 1 128 (c .registers) (registers .0);
+      uniforms = eqb-true _ _ (uniforms .0);
+      specials = in-columns 0 256 (c .specials) (specials .0);
+      some = leb-true _ _ (some .0);
+      budget = leb-true _ _ (budget .0);
+      even = eqb-true _ _ (even .0);
+      inside = leb-true _ _ (inside .0);
+      room = leb-true _ _ (inside .1);
+    }

@@ -1,0 +1,93 @@
+-- Laws of one step: an accepted step begins at the state and does to its threads what its instruction means; a refused one has one of
+-- the numbers 2 to 7.
+use mathlib.Core.Path.{_≡_, refl, subst}
+use mathlib.Core.Bool.{Bool, true, false, cond}
+use mathlib.Core.List.{List}
+use Prim.Native.Nat.{ℕ, _+_, _*_, _%_, _^_, _≤_, _<_}
+use native.Mathlib.Omega.{arith}
+use lib.Dec.{eqb, leb, lit≤}
+use lib.ListN.{length, drop}
+use lib.IntN.{ℤ, pos, negsuc, _+ℤ_}
+use Rattle.isa.specs.Refusal.{numberOf}
+use Rattle.isa.specs.declared.answer.Refusal.{Refusal}
+use Rattle.isa.specs.declared.instruction.Instruction.{Instruction}
+use Rattle.isa.proofs.Cases.{cases}
+use Rattle.machine.specs.Words.{Tables}
+use Rattle.machine.specs.Meaning.{Meaning, writes, masks, jumps, meaningOf, both}
+use Rattle.machine.specs.State.{Threads, State}
+use Rattle.machine.specs.Step.{Going, to, nowhere, taken, landing, goingOf, goTo, Step, Stepped, accepted, refused}
+use Rattle.machine.specs.Step.{maskAll, threadsAfter, registersReach, specialsReach, stepBy, stepOf}
+use Rattle.machine.proofs.Masks.{pack-lt}
+
+pub record Made (tables : Tables) (s : State) (step : Step) : Type 0 where
+  pub before : step .before ≡ s
+  pub after : step .after .threads ≡ threadsAfter (meaningOf (step .instruction)) tables (s .threads)
+
+pub record Numbered (r : Refusal) : Type 0 where
+  pub least : 2 ≤ numberOf r
+  pub most : numberOf r ≤ 7
+
+abbrev AsStepped : Tables → State → Stepped → Type 0
+AsStepped tables s (accepted step) = Made tables s step
+AsStepped tables s (refused r) = Numbered r
+
+numbered : (r : Refusal) → 2 ≤ numberOf r → numberOf r ≤ 7 → Numbered r
+numbered r a b = record { least = a; most = b }
+
+abbrev Somewhere : Going → Type 0
+Somewhere (to address class) = Unit {0}
+Somewhere (nowhere r) = Numbered r
+
+landed : (codeLength : ℕ) (z : ℤ) → Somewhere (landing codeLength z)
+landed codeLength (pos target) = go (both (eqb (target % 2) 0) (leb target codeLength))
+  where
+    go : (b : Bool) → Somewhere (cond b (to target 4) (nowhere Refusal.BadTarget))
+    go true = tt
+    go false = numbered Refusal.BadTarget (lit≤ tt) (lit≤ tt)
+landed codeLength (negsuc below) = numbered Refusal.BadTarget (lit≤ tt) (lit≤ tt)
+
+goes-somewhere : (m : Meaning) (codeLength bytes : ℕ) (s : State) → Somewhere (goingOf m codeLength bytes s)
+unfolding goingOf
+goes-somewhere (writes d a b c result) codeLength bytes s = tt
+goes-somewhere (masks a b result) codeLength bytes s = tt
+goes-somewhere (jumps any offset) codeLength bytes s = go (taken any (s .threads .mask))
+  where
+    go : (b : Bool) → Somewhere (cond b (landing codeLength (pos (s .address) +ℤ offset)) (to (s .address + bytes) 3))
+    go true = landed codeLength (pos (s .address) +ℤ offset)
+    go false = tt
+
+module _ (tables : Tables) (s : State) where
+  gone : (g : Going) (i : Instruction) (bytes : ℕ) → Somewhere g → AsStepped tables s (goTo g i bytes tables s)
+  gone (to address class) i bytes h = record { before = refl; after = refl }
+  gone (nowhere r) i bytes h = h
+
+  held : (a b : Bool) (x : Stepped) → AsStepped tables s x
+      → AsStepped tables s (cond a (cond b x (refused Refusal.NoSpecial)) (refused Refusal.NoRegister))
+  held true true x h = h
+  held true false x h = numbered Refusal.NoSpecial (lit≤ tt) (lit≤ tt)
+  held false b x h = numbered Refusal.NoRegister (lit≤ tt) (lit≤ tt)
+
+  as-stepped : (code : List ℕ) → AsStepped tables s (stepOf code tables s)
+  unfolding stepOf stepBy
+  as-stepped code =
+      cases (λ d. AsStepped tables s (stepBy d (length code) tables s)) (drop (s .address) code)
+      (λ p n i f e.
+        held (leb (32 * registersReach (meaningOf i)) (length (s .threads .registers)))
+        (leb (32 * specialsReach (meaningOf i)) (length (tables .specials)))
+        (goTo (goingOf (meaningOf i) (length code) n s) i n tables s)
+        (gone (goingOf (meaningOf i) (length code) n s) i n (goes-somewhere (meaningOf i) (length code) n s)))
+      (λ r a b. numbered r a (omega arith))
+
+  pub step-made : (code : List ℕ) (step : Step) → stepOf code tables s ≡ accepted step → Made tables s step
+  step-made code step e = subst (AsStepped tables s) e (as-stepped code)
+
+  pub step-numbered : (code : List ℕ) (r : Refusal) → stepOf code tables s ≡ refused r → Numbered r
+  step-numbered code r e = subst (AsStepped tables s) e (as-stepped code)
+
+-- ---- the mask keeps to its 32 bits
+
+pub mask-after : (m : Meaning) (tables : Tables) (s : Threads) → s .mask < 2 ^ 32 → threadsAfter m tables s .mask < 2 ^ 32
+unfolding threadsAfter maskAll
+mask-after (writes d a b c result) tables s h = h
+mask-after (masks a b result) tables s h = pack-lt 32 _
+mask-after (jumps any offset) tables s h = h

@@ -1,0 +1,6 @@
+pub mod Own
+pub mod Project
+pub mod Sorted
+pub mod Alone
+pub mod Theorem
+pub mod Exists
