@@ -46,14 +46,14 @@ landed codeLength (pos target) = go (both (eqb (target % 2) 0) (leb target codeL
     go false = numbered Refusal.BadTarget (lit≤ tt) (lit≤ tt)
 landed codeLength (negsuc below) = numbered Refusal.BadTarget (lit≤ tt) (lit≤ tt)
 
-goes-somewhere : (m : Meaning) (codeLength bytes : ℕ) (s : State) → Somewhere (goingOf m codeLength bytes s)
+goes-somewhere : (m : Meaning) (codeLength bytes address mask : ℕ) → Somewhere (goingOf m codeLength bytes address mask)
 unfolding goingOf
-goes-somewhere (writes d a b c result) codeLength bytes s = tt
-goes-somewhere (masks a b result) codeLength bytes s = tt
-goes-somewhere (jumps any offset) codeLength bytes s = go (taken any (s .threads .mask))
+goes-somewhere (writes d a b c result) codeLength bytes address mask = tt
+goes-somewhere (masks a b result) codeLength bytes address mask = tt
+goes-somewhere (jumps any offset) codeLength bytes address mask = go (taken any mask)
   where
-    go : (b : Bool) → Somewhere (cond b (landing codeLength (pos (s .address) +ℤ offset)) (to (s .address + bytes) 3))
-    go true = landed codeLength (pos (s .address) +ℤ offset)
+    go : (b : Bool) → Somewhere (cond b (landing codeLength (pos address +ℤ offset)) (to (address + bytes) 3))
+    go true = landed codeLength (pos address +ℤ offset)
     go false = tt
 
 module _ (tables : Tables) (s : State) where
@@ -74,8 +74,9 @@ module _ (tables : Tables) (s : State) where
       (λ p n i f e.
         held (leb (32 * registersReach (meaningOf i)) (length (s .threads .registers)))
         (leb (32 * specialsReach (meaningOf i)) (length (tables .specials)))
-        (goTo (goingOf (meaningOf i) (length code) n s) i n tables s)
-        (gone (goingOf (meaningOf i) (length code) n s) i n (goes-somewhere (meaningOf i) (length code) n s)))
+        (goTo (goingOf (meaningOf i) (length code) n (s .address) (s .threads .mask)) i n tables s)
+        (gone (goingOf (meaningOf i) (length code) n (s .address) (s .threads .mask)) i n
+          (goes-somewhere (meaningOf i) (length code) n (s .address) (s .threads .mask))))
       (λ r a b. numbered r a (omega arith))
 
   pub step-made : (code : List ℕ) (step : Step) → stepOf code tables s ≡ accepted step → Made tables s step

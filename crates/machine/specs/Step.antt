@@ -103,11 +103,11 @@ landing codeLength (pos target) =
     cond (both (eqb (target % 2) 0) (leb target codeLength)) (to target 4) (nowhere Refusal.BadTarget)
 landing codeLength (negsuc below) = nowhere Refusal.BadTarget
 
-unfoldable pub goingOf : Meaning → ℕ → ℕ → State → Going
-goingOf (writes d a b c result) codeLength bytes s = to (s .address + bytes) 1
-goingOf (masks a b result) codeLength bytes s = to (s .address + bytes) 2
-goingOf (jumps any offset) codeLength bytes s =
-    cond (taken any (s .threads .mask)) (landing codeLength (pos (s .address) +ℤ offset)) (to (s .address + bytes) 3)
+unfoldable pub goingOf : Meaning → ℕ → ℕ → ℕ → ℕ → Going
+goingOf (writes d a b c result) codeLength bytes address mask = to (address + bytes) 1
+goingOf (masks a b result) codeLength bytes address mask = to (address + bytes) 2
+goingOf (jumps any offset) codeLength bytes address mask =
+    cond (taken any mask) (landing codeLength (pos address +ℤ offset)) (to (address + bytes) 3)
 
 -- ---- the step
 
@@ -136,7 +136,7 @@ stepBy (Decoded.Refused r) codeLength tables s = refused r
 stepBy (Decoded.Found i bytes) codeLength tables s =
     cond (leb (32 * registersReach (meaningOf i)) (length (s .threads .registers)))
     (cond (leb (32 * specialsReach (meaningOf i)) (length (tables .specials)))
-    (goTo (goingOf (meaningOf i) codeLength bytes s) i bytes tables s)
+    (goTo (goingOf (meaningOf i) codeLength bytes (s .address) (s .threads .mask)) i bytes tables s)
     (refused Refusal.NoSpecial))
     (refused Refusal.NoRegister)
 

@@ -1,0 +1,47 @@
+// What an operation computes for each of the 32 threads, modulo 2^64, from the gathered values of its sources.
+ghost use mathlib.Core.Path.{_≡_};
+ghost use lib.ListN.{length};
+ghost use Rattle.machine.specs.Integer.{modulo};
+ghost use Rattle.machine.specs.Lanes.{tab};
+ghost use Rattle.action.specs.Operation.{resultBy, SizedBy, Within, WithinAll};
+ghost use Rattle.alu.specs.Results.{resultAt};
+use action::operation::Operation;
+
+// For one thread.
+fn result(operation: Operation, a: u64, b: u64, c: u64) -> u64
+    requires { ⌜ SizedBy operation × Within operation a b c ⌝ }
+    ensures { λ r. ⌜ r ≡ modulo (resultBy operation a b c) 64 ⌝ }
+{
+    match operation {
+        Operation::Mov(imm) => imm as u64,
+        Operation::GetSr => a,
+        Operation::Iadd(o) => sums::iadd(o, a, b),
+        Operation::Imadd(o) => sums::imadd(o, a, b, c),
+        Operation::Bfi(m) => fields::bfi(m, a, b, c),
+        Operation::Bfeil(m) => fields::bfeil(m, a, b, c),
+        Operation::Extr(m) => fields::extr(m, a, b, c),
+        Operation::Shlhi(m) => fields::shlhi(m, a, b, c),
+        Operation::Shrhi(m) => fields::shrhi(m, a, b, c),
+        Operation::Asr(size) => signs::asr(size, a, b),
+        Operation::Asrh(size) => signs::asrh(size, a, b),
+        Operation::Bitop(o) => bitwise::bitop(o, a, b),
+        Operation::Bitrev => bitwise::bitrev(a),
+        Operation::Popcount => bitwise::popcount(a),
+        Operation::Ffs => bitwise::ffs(a),
+        Operation::PopExec(n) => nesting::pop_exec(n, c),
+        Operation::IfIcmp(o) => nesting::if_icmp(o, a, b, c),
+        Operation::WhileIcmp(o) => nesting::while_icmp(o, a, b, c),
+        Operation::ElseIcmp(o) => nesting::else_icmp(o, a, b, c),
+    }
+}
+
+pub fn results(operation: Operation, sources: &[[u64; 32]; 3], out: &mut [u64; 32])
+    requires { ⌜ (length (now out) ≡ 32) × SizedBy operation × WithinAll operation (now sources) ⌝ }
+    ensures { λ _. ⌜ now (out .exit) ≡ tab 32 (resultAt operation (now (sources .entry))) ⌝ }
+{
+    let mut t = 0;
+    while t < 32 {
+        out[t] = result(operation, sources[0][t], sources[1][t], sources[2][t]);
+        t += 1;
+    }
+}

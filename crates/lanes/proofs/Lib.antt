@@ -1,0 +1,5 @@
+pub mod Rows
+pub mod Halves
+pub mod Bounds
+pub mod Stores
+pub mod Columns

@@ -1,0 +1,53 @@
+-- The rows in turn, and the law of halves.
+use Prim.Native.Nat.{ℕ}
+use mathlib.Core.Path.{ap, _∙_}
+use mathlib.Core.List.{List}
+use borrow.Author.Needs.{needs}
+use denote.Ref.{now}
+use lib.ListN.{length}
+use Rattle.machine.specs.Lanes.{tab, each}
+use Rattle.machine.proofs.Tab.{length-tab}
+use Rattle.lanes.specs.Results.{lowOf, mergedAt, wordLane}
+use Rattle.lanes.proofs.Stores.{put-halves}
+use Rattle.lanes.proofs.results.halves.Statement.{statement}
+use Rattle.lanes.proofs.results.halves.Tie as tie
+
+lows-requires : tie.Need-lows-requires
+lows-requires c κs = search needs
+
+merged-requires : tie.Need-merged-requires
+merged-requires c κs =
+    (ap length (c .before .before .lows .ensures) ∙ length-tab 32 (lowOf (now (c .before .before .before .before .before .args .values))), c .before .before .before .before .before .pre)
+
+index-requires : tie.Need-index-requires
+index-requires c κs = search needs
+
+put-requires : tie.Need-put-requires
+put-requires c κs = search needs
+
+same-length : tie.Need-same-length
+same-length c = search needs
+
+returns : tie.Need-returns
+returns c =
+    let a = c .before .before .before .before .before .before .before .before .before .before .before .before .args in
+    let registers = now (a .registers) in
+    c .before .before .put .ensures
+    ∙ (λ i.
+      each 32
+      (wordLane
+      ((c .before .before .before .before .before .before .merged .ensures
+        ∙ ap (λ (row : List ℕ). tab 32 (mergedAt registers (a .h) row)) (c .before .before .before .before .before .before .before .before .before .lows .ensures)) i)
+      (a .mask) (c .before .before .before .before .index .ensures i)) registers)
+    ∙ put-halves (now (a .values)) (a .mask) (a .h) registers
+
+pub halves-spec : {M : Type 1} → statement M
+halves-spec =
+    tie.close
+    (tie.spec
+    lows-requires
+    merged-requires
+    index-requires
+    put-requires
+    same-length
+    returns)

@@ -1,0 +1,122 @@
+-- The row holds the new words of the threads passed, and behind them the values of the others.
+use Prim.Native.Nat.{ℕ, _+_, _-_, _*_, _/_, _%_, _^_, _≤_}
+use mathlib.Core.Path.{_≡_, refl, ap, _∙_}
+use mathlib.Core.Bool.{cond}
+use native.Mathlib.Omega.{arith}
+use borrow.Author.Needs.{needs}
+use denote.Ref.{now}
+use lib.Bits.{bitAnd, bitOr}
+use lib.Dec.{eqb}
+use lib.ListN.{length, getD}
+use Rattle.machine.proofs.Tab.{filled, filled-none}
+use Rattle.lanes.specs.Results.{mergedAt}
+use Rattle.lanes.proofs.Halves.{place-lt, half-merge}
+use Rattle.lanes.proofs.Rows.{row-next, row-rest, row-done}
+use Rattle.lanes.proofs.results.merged.Statement.{statement}
+use Rattle.lanes.proofs.results.merged.Tie as tie
+
+abbrev Inv-loop : tie.InvT-loop
+Inv-loop registers h row₀ base other place t₀ row t =
+    (t ≤ 32) × (row ≡ filled (mergedAt registers h row₀) t row₀) × (length row₀ ≡ 32)
+
+abbrev μ-loop : tie.MeasureT-loop
+μ-loop registers h row₀ base other place t₀ row t = 32 - t
+
+index-requires : tie.Need-index-requires Inv-loop μ-loop
+index-requires c κs = search needs
+
+mul-base : tie.Need-mul-base Inv-loop μ-loop
+mul-base c = omega arith
+
+other-requires : tie.Need-other-requires Inv-loop μ-loop
+other-requires c κs = search needs
+
+place-requires : tie.Need-place-requires Inv-loop μ-loop
+place-requires c κs = search needs
+
+loop-holds : tie.Need-loop-holds Inv-loop μ-loop
+loop-holds c = (omega arith, filled-none _ _, c .before .before .before .before .pre .0)
+
+mul-x : tie.Need-mul-x Inv-loop μ-loop
+mul-x c = omega arith
+
+element-copy-out-x : tie.Need-element-copy-out-x Inv-loop μ-loop
+element-copy-out-x c = omega arith
+
+add-merge : tie.Need-add-merge Inv-loop μ-loop
+add-merge c = omega arith
+
+mul-merge : tie.Need-mul-merge Inv-loop μ-loop
+mul-merge c = omega arith
+
+shared-slice-read-merge : tie.Need-shared-slice-read-merge Inv-loop μ-loop
+shared-slice-read-merge c = omega arith
+
+merge-requires : tie.Need-merge-requires Inv-loop μ-loop
+merge-requires c κs =
+    rw (c .before .before .before .before .place .ensures)
+    (place-lt (eqb (c .before .before .before .before .before .before .before .before .args .h % 2) 0))
+
+mul-row : tie.Need-mul-row Inv-loop μ-loop
+mul-row c = omega arith
+
+element-write-row : tie.Need-element-write-row Inv-loop μ-loop
+element-write-row c = omega arith
+
+add-t : tie.Need-add-t Inv-loop μ-loop
+add-t c = omega arith
+
+loop-less : tie.Need-loop-less Inv-loop μ-loop
+loop-less c = omega arith
+
+loop-again : tie.Need-loop-again Inv-loop μ-loop
+loop-again c =
+    let l = c .before .before .before .before .loop in
+    let a = c .before .before .before .before .before .before .before .before .before .args in
+    let registers = now (a .registers) in
+    (omega arith,
+    row-next (mergedAt registers (a .h) (now (a .row))) (l .t) (l .row) (now (a .row)) (l .inv .1) (l .inv .2) (c .merge .result)
+    (c .before .before .before .loop-test .taken)
+    (c .merge .ensures
+      ∙ (λ i.
+        bitOr
+        (bitAnd (getD registers (32 * c .before .before .before .before .before .before .before .index .ensures i + l .t) 0)
+        (c .before .before .before .before .before .before .other .ensures i))
+        (row-rest (mergedAt registers (a .h) (now (a .row))) (l .t) (l .row) (now (a .row)) (l .inv .1) (l .inv .2)
+          (c .before .before .before .loop-test .taken) i
+          % 2 ^ 16 * 2 ^ c .before .before .before .before .before .place .ensures i % 2 ^ 32))
+      ∙ half-merge (a .h) (getD registers (32 * (a .h / 2) + l .t) 0)
+        (c .before .before .before .before .before .before .before .before .shared-slice-known .given (32 * (a .h / 2) + l .t) .fits)
+        (getD (now (a .row)) (l .t) 0)),
+    l .inv .2)
+
+returns : tie.Need-returns Inv-loop μ-loop
+returns c =
+    let l = c .before .loop in
+    let a = c .before .before .before .before .before .before .args in
+    row-done (mergedAt (now (a .registers)) (a .h) (now (a .row))) (l .t) (l .row) (now (a .row)) (l .inv .1) (l .inv .2) (l .inv .0)
+    (c .loop-test .left)
+
+pub merged-spec : {M : Type 1} → statement M
+merged-spec =
+    tie.close
+    (tie.spec
+    Inv-loop
+    μ-loop
+    index-requires
+    mul-base
+    other-requires
+    place-requires
+    loop-holds
+    mul-x
+    element-copy-out-x
+    add-merge
+    mul-merge
+    shared-slice-read-merge
+    merge-requires
+    mul-row
+    element-write-row
+    add-t
+    loop-less
+    loop-again
+    returns)

@@ -1,0 +1,58 @@
+-- The rows in turn, and the law of pairs.
+use Prim.Native.Nat.{_+_}
+use mathlib.Core.Path.{ap, _∙_}
+use borrow.Author.Needs.{needs}
+use denote.Ref.{now}
+use Rattle.machine.specs.Lanes.{each}
+use Rattle.lanes.specs.Results.{wordLane}
+use Rattle.lanes.proofs.Stores.{put-pairs}
+use Rattle.lanes.proofs.results.pairs.Statement.{statement}
+use Rattle.lanes.proofs.results.pairs.Tie as tie
+
+index-requires : tie.Need-index-requires
+index-requires c κs = search needs
+
+lows-requires : tie.Need-lows-requires
+lows-requires c κs = search needs
+
+put-requires : tie.Need-put-requires
+put-requires c κs = search needs
+
+highs-requires : tie.Need-highs-requires
+highs-requires c κs = search needs
+
+add-put : tie.Need-add-put
+add-put c = search needs
+
+put-requires-2 : tie.Need-put-requires-2
+put-requires-2 c κs = search needs
+
+same-length : tie.Need-same-length
+same-length c = search needs
+
+returns : tie.Need-returns
+returns c =
+    let a = c .before .before .before .before .before .before .before .before .before .before .before .before .before .before .before .before .args in
+    let first = c .before .before .before .before .before .before .before .before .before .before .before .before .before .before .index in
+    let low = c .before .before .before .before .before .before .before .before .before .before .before .before .lows in
+    let put = c .before .before .before .before .before .before .before .before .before .put in
+    let high = c .before .before .before .before .before .highs in
+    c .before .before .put2 .ensures
+    ∙ ap (each 32 (wordLane (high .last .1 .0) (a .mask) (first .result + 1))) (put .ensures)
+    ∙ (λ i.
+      each 32 (wordLane (high .ensures i) (a .mask) (first .ensures i + 1))
+      (each 32 (wordLane (low .ensures i) (a .mask) (first .ensures i)) (now (a .registers))))
+    ∙ put-pairs (now (a .values)) (a .mask) (a .r) (now (a .registers))
+
+pub pairs-spec : {M : Type 1} → statement M
+pairs-spec =
+    tie.close
+    (tie.spec
+    index-requires
+    lows-requires
+    put-requires
+    highs-requires
+    add-put
+    put-requires-2
+    same-length
+    returns)

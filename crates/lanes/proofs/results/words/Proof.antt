@@ -1,0 +1,32 @@
+-- The row, and the law of words.
+use mathlib.Core.Path.{_∙_}
+use borrow.Author.Needs.{needs}
+use denote.Ref.{now}
+use Rattle.machine.specs.Lanes.{each}
+use Rattle.lanes.specs.Results.{wordLane}
+use Rattle.lanes.proofs.Stores.{put-words}
+use Rattle.lanes.proofs.results.words.Statement.{statement}
+use Rattle.lanes.proofs.results.words.Tie as tie
+
+lows-requires : tie.Need-lows-requires
+lows-requires c κs = search needs
+
+index-requires : tie.Need-index-requires
+index-requires c κs = search needs
+
+put-requires : tie.Need-put-requires
+put-requires c κs = search needs
+
+same-length : tie.Need-same-length
+same-length c = search needs
+
+returns : tie.Need-returns
+returns c =
+    let a = c .before .before .before .before .before .before .before .before .before .args in
+    c .before .before .put .ensures
+    ∙ (λ i.
+      each 32 (wordLane (c .before .before .before .before .before .before .lows .ensures i) (a .mask) (c .before .before .before .before .index .ensures i)) (now (a .registers)))
+    ∙ put-words (now (a .values)) (a .mask) (a .r) (now (a .registers))
+
+pub words-spec : {M : Type 1} → statement M
+words-spec = tie.close (tie.spec lows-requires index-requires put-requires same-length returns)

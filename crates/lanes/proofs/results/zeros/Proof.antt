@@ -1,0 +1,77 @@
+-- The mask has the bits of the threads passed.
+use Prim.Native.Nat.{ℕ, _+_, _-_, _%_, _^_, _≤_}
+use mathlib.Core.Path.{_≡_, refl, ap₂, _∙_}
+use mathlib.Core.Bool.{cond}
+use native.Mathlib.Omega.{arith}
+use native.Mathlib.Numerals.{add-one}
+use borrow.Author.Needs.{needs}
+use denote.Ref.{now}
+use Rattle.machine.specs.Lanes.{pack}
+use Rattle.machine.proofs.Masks.{pack-lt}
+use Rattle.lanes.specs.Results.{zeroAt}
+use Rattle.lanes.proofs.Stores.{bit-fits}
+use Rattle.lanes.proofs.results.zeros.Statement.{statement}
+use Rattle.lanes.proofs.results.zeros.Tie as tie
+
+abbrev Inv-loop : tie.InvT-loop
+Inv-loop values mask₀ t₀ mask t =
+    (t ≤ 32) × (mask ≡ pack t (zeroAt values))
+
+abbrev μ-loop : tie.MeasureT-loop
+μ-loop values mask₀ t₀ mask t = 32 - t
+
+loop-holds : tie.Need-loop-holds Inv-loop μ-loop
+unfolding pack
+loop-holds c = (omega arith, refl)
+
+mul-bit : tie.Need-mul-bit Inv-loop μ-loop
+mul-bit c = omega arith
+
+element-copy-out-bit : tie.Need-element-copy-out-bit Inv-loop μ-loop
+element-copy-out-bit c = omega arith
+
+bit-requires : tie.Need-bit-requires Inv-loop μ-loop
+bit-requires c κs = omega arith
+
+add-mask : tie.Need-add-mask Inv-loop μ-loop
+add-mask c =
+    let l = c .before .before .before .loop in
+    let values = now (c .before .before .before .before .args .values) in
+    record {
+      fits =
+        rw (c .bit .ensures, l .inv .1)
+        (bit-fits (pack (l .t) (zeroAt values)) (l .t) (zeroAt values (l .t)) (c .before .before .loop-test .taken) (pack-lt (l .t) (zeroAt values)));
+    }
+
+add-t : tie.Need-add-t Inv-loop μ-loop
+add-t c = omega arith
+
+loop-less : tie.Need-loop-less Inv-loop μ-loop
+loop-less c = omega arith
+
+loop-again : tie.Need-loop-again Inv-loop μ-loop
+unfolding pack
+loop-again c =
+    let l = c .before .before .before .loop in
+    (omega arith, rw add-one (ap₂ (λ (x y : ℕ). x + y) (l .inv .1) (c .bit .ensures)))
+
+returns : tie.Need-returns Inv-loop μ-loop
+returns c =
+    let e : c .before .loop .t ≡ 32 = omega arith in
+    c .before .loop .inv .1 ∙ rw e
+
+pub zeros-spec : {M : Type 1} → statement M
+zeros-spec =
+    tie.close
+    (tie.spec
+    Inv-loop
+    μ-loop
+    loop-holds
+    mul-bit
+    element-copy-out-bit
+    bit-requires
+    add-mask
+    add-t
+    loop-less
+    loop-again
+    returns)

@@ -1,0 +1,100 @@
+-- The row holds the halves of the threads passed.
+use Prim.Native.Nat.{ℕ, _+_, _-_, _*_, _/_, _%_, _^_, _≤_}
+use mathlib.Core.Path.{_≡_, refl, ap₂, _∙_}
+use mathlib.Core.Bool.{cond}
+use native.Mathlib.Omega.{arith}
+use borrow.Author.Needs.{needs}
+use denote.Ref.{now}
+use lib.Dec.{eqb}
+use lib.ListN.{getD, replicate}
+use Rattle.machine.proofs.Tab.{filled, filled-none}
+use Rattle.lanes.specs.Sources.{halfAt}
+use Rattle.lanes.proofs.Halves.{place-lt, half-part}
+use Rattle.lanes.proofs.Rows.{row-next, row-done}
+use Rattle.lanes.proofs.sources.halves.Statement.{statement}
+use Rattle.lanes.proofs.sources.halves.Tie as tie
+
+abbrev Inv-loop : tie.InvT-loop
+Inv-loop file h row base place out₀ t₀ out t =
+    (t ≤ 32) × (out ≡ filled (halfAt file h) t out₀)
+
+abbrev μ-loop : tie.MeasureT-loop
+μ-loop file h row base place out₀ t₀ out t = 32 - t
+
+index-requires : tie.Need-index-requires Inv-loop μ-loop
+index-requires c κs = search needs
+
+mul-base : tie.Need-mul-base Inv-loop μ-loop
+mul-base c = omega arith
+
+place-requires : tie.Need-place-requires Inv-loop μ-loop
+place-requires c κs = search needs
+
+loop-holds : tie.Need-loop-holds Inv-loop μ-loop
+loop-holds c = (omega arith, filled-none _ _)
+
+add-part : tie.Need-add-part Inv-loop μ-loop
+add-part c = omega arith
+
+mul-part : tie.Need-mul-part Inv-loop μ-loop
+mul-part c = omega arith
+
+shared-slice-read-part : tie.Need-shared-slice-read-part Inv-loop μ-loop
+shared-slice-read-part c = omega arith
+
+part-requires : tie.Need-part-requires Inv-loop μ-loop
+part-requires c κs =
+    rw (c .before .before .before .place .ensures) (place-lt (eqb (c .before .before .before .before .before .before .args .h % 2) 0))
+
+mul-out : tie.Need-mul-out Inv-loop μ-loop
+mul-out c = omega arith
+
+array-write-out : tie.Need-array-write-out Inv-loop μ-loop
+array-write-out c = omega arith
+
+add-t : tie.Need-add-t Inv-loop μ-loop
+add-t c = omega arith
+
+loop-less : tie.Need-loop-less Inv-loop μ-loop
+loop-less c = omega arith
+
+loop-again : tie.Need-loop-again Inv-loop μ-loop
+loop-again c =
+    let l = c .before .before .before .loop in
+    let a = c .before .before .before .before .before .before .before .args in
+    let word : ℕ → ℕ = λ r. getD (now (a .file)) (32 * r + l .t) 0 in
+    (omega arith,
+    row-next (halfAt (now (a .file)) (a .h)) (l .t) (l .out) (replicate 32 0) (l .inv .1) refl (c .part .result)
+    (c .before .before .loop-test .taken)
+    (c .part .ensures
+      ∙ ap₂ (λ (r place : ℕ). word r / 2 ^ place % 2 ^ 16) (c .before .before .before .before .before .index .ensures)
+        (c .before .before .before .before .place .ensures)
+      ∙ half-part (a .h) (word (a .h / 2))
+        (c .before .before .before .before .before .before .shared-slice-known .given (32 * (a .h / 2) + l .t) .fits)))
+
+returns : tie.Need-returns Inv-loop μ-loop
+returns c =
+    let l = c .before .loop in
+    let a = c .before .before .before .before .before .args in
+    row-done (halfAt (now (a .file)) (a .h)) (l .t) (l .out) (replicate 32 0) (l .inv .1) refl (l .inv .0) (c .loop-test .left)
+
+pub halves-spec : {M : Type 1} → statement M
+halves-spec =
+    tie.close
+    (tie.spec
+    Inv-loop
+    μ-loop
+    index-requires
+    mul-base
+    place-requires
+    loop-holds
+    add-part
+    mul-part
+    shared-slice-read-part
+    part-requires
+    mul-out
+    array-write-out
+    add-t
+    loop-less
+    loop-again
+    returns)

@@ -1,0 +1,188 @@
+-- Each arm makes the row of its case of the source.
+use Prim.Native.Nat.{ℕ, _+_, _*_, _/_, _≤_}
+use mathlib.Core.Path.{ap, _∙_, subst}
+use mathlib.Core.List.{[]}
+use native.Mathlib.Omega.{arith}
+use borrow.Author.Needs.{needs}
+use denote.Ref.{now}
+use lib.ListN.{length, getD}
+use Rattle.isa.specs.declared.operand.Source.{Source}
+use Rattle.machine.specs.Lanes.{tab}
+use Rattle.machine.specs.Words.{wordAt, sourceValue, sourceReach}
+use Rattle.lanes.specs.Sources.{pairAt}
+use Rattle.lanes.proofs.Bounds.{half-below, pair-below, source-made}
+use Rattle.lanes.proofs.sources.source.Statement.{statement}
+use Rattle.lanes.proofs.sources.source.Tie as tie
+
+enum-known-s : tie.Need-enum-known-s
+enum-known-s c = search needs
+
+halves-requires : tie.Need-halves-requires
+halves-requires c κs =
+    subst (λ (s : Source). 32 * sourceReach s ≤ length (now (c .before .before .before .before .before .before .args .registers))) (c .before .before .s .given .1) (c .before .before .before .before .before .before .pre .1)
+
+enum-known-s-2 : tie.Need-enum-known-s-2
+enum-known-s-2 c = search needs
+
+index-requires : tie.Need-index-requires
+index-requires c κs = search needs
+
+words-requires : tie.Need-words-requires
+words-requires c κs =
+    rw (c .before .index .ensures)
+    (subst (λ (s : Source). 32 * sourceReach s ≤ length (now (c .before .before .before .before .before .before .before .args .registers))) (c .before .before .before .s2 .given .1) (c .before .before .before .before .before .before .before .pre .1))
+
+enum-known-s-3 : tie.Need-enum-known-s-3
+enum-known-s-3 c = search needs
+
+index-requires-2 : tie.Need-index-requires-2
+index-requires-2 c κs = search needs
+
+pairs-requires : tie.Need-pairs-requires
+pairs-requires c κs =
+    rw (c .before .index2 .ensures)
+    (subst (λ (s : Source). 32 * sourceReach s ≤ length (now (c .before .before .before .before .before .before .before .args .registers))) (c .before .before .before .s3 .given .1) (c .before .before .before .before .before .before .before .pre .1))
+
+enum-known-s-4 : tie.Need-enum-known-s-4
+enum-known-s-4 c = search needs
+
+uniform-half-requires : tie.Need-uniform-half-requires
+uniform-half-requires c κs = search needs
+
+fill-requires : tie.Need-fill-requires
+fill-requires c κs = search needs
+
+enum-known-s-5 : tie.Need-enum-known-s-5
+enum-known-s-5 c = search needs
+
+index-requires-3 : tie.Need-index-requires-3
+index-requires-3 c κs = search needs
+
+uniform-requires : tie.Need-uniform-requires
+uniform-requires c κs = search needs
+
+wide-requires : tie.Need-wide-requires
+wide-requires c κs = search needs
+
+fill-requires-2 : tie.Need-fill-requires-2
+fill-requires-2 c κs = search needs
+
+enum-known-s-6 : tie.Need-enum-known-s-6
+enum-known-s-6 c = search needs
+
+uniform-pair-requires : tie.Need-uniform-pair-requires
+uniform-pair-requires c κs = search needs
+
+fill-requires-3 : tie.Need-fill-requires-3
+fill-requires-3 c κs = search needs
+
+enum-known-s-7 : tie.Need-enum-known-s-7
+enum-known-s-7 c = search needs
+
+cast-fill : tie.Need-cast-fill
+cast-fill c = search needs
+
+fill-requires-4 : tie.Need-fill-requires-4
+fill-requires-4 c κs = search needs
+
+returns : tie.Need-returns
+unfolding sourceValue
+returns c =
+    let a = c .before .before .before .before .before .before .before .args in
+    let h = c .before .before .before .s .given .0 .0 in
+    source-made (now (a .registers)) (now (a .uniforms)) [] (c .halves .last .1 .1 .0) (a .s) (Source.Half h) (c .before .before .before .s .given .1)
+    (c .halves .ensures)
+    (λ t. half-below h (wordAt (now (a .registers)) (h / 2) t) (c .before .before .before .before .before .before .shared-slice-known .given (32 * (h / 2) + t) .fits))
+
+returns-2 : tie.Need-returns-2
+unfolding sourceValue
+returns-2 c =
+    let a = c .before .before .before .before .before .before .before .before .args in
+    let r = c .before .before .before .before .s2 .given .0 .0 in
+    source-made (now (a .registers)) (now (a .uniforms)) [] (c .words .last .1 .1 .0) (a .s) (Source.Register r) (c .before .before .before .before .s2 .given .1)
+    (c .words .ensures ∙ ap (λ (k : ℕ). tab 32 (wordAt (now (a .registers)) k)) (c .before .before .index .ensures))
+    (λ t. c .before .before .before .before .before .before .before .shared-slice-known .given (32 * r + t) .fits)
+
+returns-3 : tie.Need-returns-3
+unfolding sourceValue
+returns-3 c =
+    let a = c .before .before .before .before .before .before .before .before .args in
+    let r = c .before .before .before .before .s3 .given .0 .0 in
+    source-made (now (a .registers)) (now (a .uniforms)) [] (c .pairs .last .1 .1 .0) (a .s) (Source.Pair r) (c .before .before .before .before .s3 .given .1)
+    (c .pairs .ensures ∙ ap (λ (k : ℕ). tab 32 (pairAt (now (a .registers)) k)) (c .before .before .index2 .ensures))
+    (λ t. pair-below (wordAt (now (a .registers)) r t) (wordAt (now (a .registers)) (r + 1) t)
+      (c .before .before .before .before .before .before .before .shared-slice-known .given (32 * r + t) .fits) (c .before .before .before .before .before .before .before .shared-slice-known .given (32 * (r + 1) + t) .fits))
+
+returns-4 : tie.Need-returns-4
+unfolding sourceValue
+returns-4 c =
+    let a = c .before .before .before .before .before .before .before .before .args in
+    let h = c .before .before .before .before .s4 .given .0 .0 in
+    source-made (now (a .registers)) (now (a .uniforms)) [] (c .fill .last .1 .0) (a .s) (Source.UniformHalf h) (c .before .before .before .before .s4 .given .1)
+    (c .fill .ensures ∙ ap (λ (v : ℕ). tab 32 (λ (k : ℕ). v)) (c .before .before .uniform-half .ensures))
+    (λ t. half-below h (getD (now (a .uniforms)) (h / 2) 0) (c .before .before .before .before .before .before .shared-slice-known2 .given (h / 2) .fits))
+
+returns-5 : tie.Need-returns-5
+unfolding sourceValue
+returns-5 c =
+    let a = c .before .before .before .before .before .before .before .before .before .before .args in
+    let r = c .before .before .before .before .before .before .s5 .given .0 .0 in
+    source-made (now (a .registers)) (now (a .uniforms)) [] (c .fill2 .last .1 .0) (a .s) (Source.UniformRegister r) (c .before .before .before .before .before .before .s5 .given .1)
+    (c .fill2 .ensures
+      ∙ ap (λ (v : ℕ). tab 32 (λ (k : ℕ). v))
+        (c .before .before .wide .ensures ∙ c .before .before .before .uniform .ensures
+          ∙ ap (λ (i : ℕ). getD (now (a .uniforms)) i 0) (c .before .before .before .before .index3 .ensures)))
+    (λ t. c .before .before .before .before .before .before .before .before .shared-slice-known2 .given r .fits)
+
+returns-6 : tie.Need-returns-6
+unfolding sourceValue
+returns-6 c =
+    let a = c .before .before .before .before .before .before .before .before .args in
+    let r = c .before .before .before .before .s6 .given .0 .0 in
+    source-made (now (a .registers)) (now (a .uniforms)) [] (c .fill3 .last .1 .0) (a .s) (Source.UniformPair r) (c .before .before .before .before .s6 .given .1)
+    (c .fill3 .ensures ∙ ap (λ (v : ℕ). tab 32 (λ (k : ℕ). v)) (c .before .before .uniform-pair .ensures))
+    (λ t. pair-below (getD (now (a .uniforms)) r 0) (getD (now (a .uniforms)) (r + 1) 0)
+      (c .before .before .before .before .before .before .shared-slice-known2 .given r .fits) (c .before .before .before .before .before .before .shared-slice-known2 .given (r + 1) .fits))
+
+returns-7 : tie.Need-returns-7
+unfolding sourceValue
+returns-7 c =
+    let a = c .before .before .before .before .before .before .before .args in
+    let v = c .before .before .before .s7 .given .0 .0 in
+    source-made (now (a .registers)) (now (a .uniforms)) [] (c .fill4 .last .1 .0) (a .s) (Source.Immediate v) (c .before .before .before .s7 .given .1)
+    (c .fill4 .ensures)
+    (λ t. omega (arith, c .before .before .known-told7 .given))
+
+pub source-spec : {M : Type 1} → statement M
+source-spec =
+    tie.close
+    (tie.spec
+    enum-known-s
+    halves-requires
+    enum-known-s-2
+    index-requires
+    words-requires
+    enum-known-s-3
+    index-requires-2
+    pairs-requires
+    enum-known-s-4
+    uniform-half-requires
+    fill-requires
+    enum-known-s-5
+    index-requires-3
+    uniform-requires
+    wide-requires
+    fill-requires-2
+    enum-known-s-6
+    uniform-pair-requires
+    fill-requires-3
+    enum-known-s-7
+    cast-fill
+    fill-requires-4
+    returns
+    returns-2
+    returns-3
+    returns-4
+    returns-5
+    returns-6
+    returns-7)

@@ -1,0 +1,40 @@
+-- A half of a uniform, by its place.
+use Prim.Native.Nat.{ℕ, _/_, _%_, _^_}
+use mathlib.Core.Path.{_∙_, ap₂}
+use borrow.Author.Needs.{needs}
+use denote.Ref.{now}
+use lib.Dec.{eqb}
+use lib.ListN.{getD}
+use Rattle.lanes.proofs.Halves.{place-lt, half-part}
+use Rattle.lanes.proofs.sources.uniform_half.Statement.{statement}
+use Rattle.lanes.proofs.sources.uniform_half.Tie as tie
+
+cast-i : tie.Need-cast-i
+cast-i c = search needs
+
+uniform-requires : tie.Need-uniform-requires
+uniform-requires c κs = search needs
+
+place-requires : tie.Need-place-requires
+place-requires c κs = search needs
+
+part-requires : tie.Need-part-requires
+part-requires c κs =
+    rw (c .place .ensures) (place-lt (eqb (c .before .before .before .args .h % 2) 0))
+
+returns : tie.Need-returns
+returns c =
+    let a = c .before .before .before .before .args in
+    c .part .ensures
+    ∙ ap₂ (λ (word place : ℕ). word / 2 ^ place % 2 ^ 16) (c .before .before .uniform .ensures) (c .before .place .ensures)
+    ∙ half-part (a .h) (getD (now (a .uniforms)) (a .h / 2) 0) (c .before .before .before .shared-slice-known .given (a .h / 2) .fits)
+
+pub uniform-half-spec : {M : Type 1} → statement M
+uniform-half-spec =
+    tie.close
+    (tie.spec
+    cast-i
+    uniform-requires
+    place-requires
+    part-requires
+    returns)

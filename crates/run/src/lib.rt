@@ -1,0 +1,41 @@
+// A run: the 32 threads step in lockstep until the code is at its end, the budget is used up, or an instruction is refused.
+ghost use mathlib.Core.Path.{_≡_};
+ghost use Rattle.run.specs.Ran.{Ran, callOf};
+
+mod sizes;
+
+use isa::answer::Refusal;
+use machine::answer::Answer;
+use machine::answer::Ending;
+use step::Turn;
+
+// Lengths, budget and start are looked at before anything is written. Uniforms and special registers are only read.
+pub fn run(code: &[u8], registers: &mut [u32], uniforms: &[u32], specials: &[u32], start: usize, mask: u32, budget: usize, records: &mut [u8]) -> Answer
+    ensures { λ r. ⌜ Ran (callOf (now (code .entry)) (now (registers .entry)) (now (uniforms .entry)) (now (specials .entry)) start mask budget (now (records .entry)))
+        r (now (registers .exit)) (now (records .exit)) ⌝ }
+{
+    if !sizes::arranged(code.len(), registers.len(), uniforms.len(), specials.len(), start, budget, records.len()) {
+        return Answer { ending: Ending::Refused(Refusal::BadSize), steps: 0, address: start, mask };
+    }
+    let mut address = start;
+    let mut active = mask;
+    let mut steps = 0;
+    while address != code.len() {
+        if steps == budget {
+            return Answer { ending: Ending::Spent, steps, address, mask: active };
+        }
+        match step::step(code, registers, uniforms, specials, address, active) {
+            Turn::Stops(r) => {
+                return Answer { ending: Ending::Refused(r), steps, address, mask: active };
+            }
+            Turn::Goes { address: next, mask: after, bytes, class } => {
+                let record = step::record::record(address, bytes, class, active, after);
+                bits::piece::put(records, 16 * steps, &record);
+                address = next;
+                active = after;
+                steps += 1;
+            }
+        }
+    }
+    Answer { ending: Ending::Finished, steps, address, mask: active }
+}

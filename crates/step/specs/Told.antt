@@ -1,0 +1,39 @@
+-- What the code tells of a step: all of it but the instruction, which is the definition's.
+use Prim.Native.Nat.{ℕ, _*_}
+use mathlib.Core.Bool.{Bool, true, false, cond}
+use mathlib.Core.List.{List}
+use lib.Dec.{leb}
+use lib.ListN.{length}
+use Rattle.isa.specs.declared.answer.Refusal.{Refusal}
+use Rattle.machine.specs.Words.{Tables}
+use Rattle.machine.specs.Meaning.{Meaning}
+use Rattle.machine.specs.State.{Threads, State, threadsAt, stateAt}
+use Rattle.machine.specs.Step.{Going, to, nowhere, Step, Stepped, accepted, refused, registersReach, specialsReach, goingOf, threadsAfter}
+use Rattle.step.specs.declared.Turn.{Turn}
+
+-- the length of the instruction, the class and the state after an accepted step; of a refused one the registers, as they were
+pub data Told : Type 0 where
+  goes : ℕ → ℕ → State → Told
+  stops : Refusal → List ℕ → Told
+
+abbrev pub told : Turn → List ℕ → Told
+told (Turn.Goes address mask bytes class) registers = goes bytes class (stateAt (threadsAt registers mask) address)
+told (Turn.Stops r) registers = stops r registers
+
+abbrev pub toldBy : Stepped → List ℕ → Told
+toldBy (accepted step) registers = goes (step .bytes) (step .class) (step .after)
+toldBy (refused r) registers = stops r registers
+
+abbrev pub goneTo : Going → ℕ → Threads → List ℕ → Told
+goneTo (to address class) bytes after registers = goes bytes class (stateAt after address)
+goneTo (nowhere r) bytes after registers = stops r registers
+
+-- an instruction that means m, of so many bytes, in code of some length
+unfoldable pub takenBy : Meaning → ℕ → ℕ → Tables → State → Told
+takenBy m bytes size tables s =
+    let registers = s .threads .registers in
+    cond (leb (32 * registersReach m) (length registers))
+    (cond (leb (32 * specialsReach m) (length (tables .specials)))
+    (goneTo (goingOf m size bytes (s .address) (s .threads .mask)) bytes (threadsAfter m tables (s .threads)) registers)
+    (stops Refusal.NoSpecial registers))
+    (stops Refusal.NoRegister registers)

@@ -1,0 +1,65 @@
+// What an accepted instruction does to registers and mask. All sources of all threads are read before any thread is written.
+ghost use mathlib.Core.Path.{_≡_};
+ghost use Prim.Native.Nat.{_*_, _≤_};
+ghost use lib.ListN.{length};
+ghost use Rattle.machine.specs.Words.{destinationReach};
+ghost use Rattle.machine.specs.State.{threadsAt};
+ghost use Rattle.machine.specs.Step.{gatherOf, ownR0l, writeAll, maskAll, threadsAfter, registersReach, specialsReach};
+ghost use Rattle.action.specs.Operation.{resultBy};
+ghost use Rattle.action.specs.Action.{meaningBy, Fitting, FittingBy};
+ghost use Rattle.lanes.specs.Sources.{lent, Reached};
+
+use action::Action;
+use action::operation::Operation;
+use isa::operand::Destination;
+use isa::operand::Hint;
+use isa::operand::Source;
+use isa::operand::Src;
+use machine::input::Input;
+
+fn write(d: Destination, a: Input, b: Input, c: Input, operation: Operation, registers: &mut [u32], uniforms: &[u32], specials: &[u32], mask: u32)
+    requires { ⌜ Fitting operation a b c × (32 * destinationReach d ≤ length (now registers))
+        × Reached a (now registers) (now specials) × Reached b (now registers) (now specials) × Reached c (now registers) (now specials) ⌝ }
+    ensures { λ _. ⌜ now (registers .exit)
+        ≡ writeAll d (resultBy operation) mask (gatherOf (lent (now (uniforms .entry)) (now (specials .entry))) (now (registers .entry)) a b c) (now (registers .entry)) ⌝ }
+{
+    let zero = [0u64; 32];
+    let mut sources = [zero; 3];
+    lanes::sources::gather(registers, uniforms, specials, a, b, c, &mut sources);
+    let mut values = zero;
+    alu::results(operation, &sources, &mut values);
+    lanes::results::store(registers, d, mask, &values);
+}
+
+// r0l of all threads, active or not, and then the mask.
+fn mask(a: Input, b: Input, operation: Operation, registers: &mut [u32], uniforms: &[u32], specials: &[u32]) -> u32
+    requires { ⌜ Fitting operation a b ownR0l × (32 ≤ length (now registers))
+        × Reached a (now registers) (now specials) × Reached b (now registers) (now specials) ⌝ }
+    ensures { λ r. ⌜ threadsAt (now (registers .exit)) r
+        ≡ maskAll (resultBy operation) (gatherOf (lent (now (uniforms .entry)) (now (specials .entry))) (now (registers .entry)) a b ownR0l) (now (registers .entry)) ⌝ }
+{
+    let zero = [0u64; 32];
+    let mut sources = [zero; 3];
+    let own = Src { source: Source::Half(0), hint: Hint::None };
+    lanes::sources::gather(registers, uniforms, specials, a, b, Input::Operand(own), &mut sources);
+    let mut values = zero;
+    alu::results(operation, &sources, &mut values);
+    lanes::results::store(registers, Destination::Half(0), 0xffffffff, &values);
+    lanes::results::zeros(&values)
+}
+
+pub fn act(action: Action, registers: &mut [u32], uniforms: &[u32], specials: &[u32], before: u32) -> u32
+    requires { ⌜ FittingBy action × (32 * registersReach (meaningBy action) ≤ length (now registers))
+        × (32 * specialsReach (meaningBy action) ≤ length (now specials)) ⌝ }
+    ensures { λ r. ⌜ threadsAt (now (registers .exit)) r
+        ≡ threadsAfter (meaningBy action) (lent (now (uniforms .entry)) (now (specials .entry))) (threadsAt (now (registers .entry)) before) ⌝ }
+{
+    match action {
+        Action::Writes { d, a, b, c, operation } => {
+            write(d, a, b, c, operation, registers, uniforms, specials, before);
+            before
+        }
+        Action::Masks { a, b, operation } => mask(a, b, operation, registers, uniforms, specials),
+        Action::Jumps { any: _, off: _ } => before,
+    }
+}

@@ -1,0 +1,5 @@
+pub mod Modulo
+pub mod Distance
+pub mod Caps
+pub mod Factors
+pub mod Results
