@@ -1,8 +1,8 @@
 -- Where the values are the results of all threads modulo 2 ^ 64, the loops over all threads do what a step does thread by thread.
-use mathlib.Core.Path.{_≡_, refl, sym, ap, _∙_}
-use mathlib.Core.Bool.{Bool, true, false, cond}
+use mathlib.Core.Path.{_≡_, ap, _∙_}
+use mathlib.Core.Bool.{Bool, true, cond}
 use mathlib.Core.List.{List}
-use Prim.Native.Nat.{ℕ, zero, suc, _+_, _*_, _-_, _/_, _%_, _^_, _≤_, _<_}
+use Prim.Native.Nat.{ℕ, suc, _+_, _*_, _-_, _/_, _%_, _^_, _<_}
 use native.Mathlib.Nat.{mod-lt}
 use native.Mathlib.Omega.{arith}
 use lib.Dec.{eqb}
@@ -12,12 +12,12 @@ use lib.Pow.{pow-pos, pow-add, mod-mod-pow, mod-pow-add, low, high, ones-split, 
 use borrow.Author.Tests.{eq-eqb}
 use Rattle.isa.specs.declared.operand.Destination.{Destination}
 use Rattle.machine.specs.Integer.{modulo}
-use Rattle.machine.specs.Lanes.{tab, each, activeIn, pack}
+use Rattle.machine.specs.Lanes.{tab, activeIn, pack}
 use Rattle.machine.specs.Words.{storeOf, destinationSize}
 use Rattle.machine.specs.Step.{Result, sourceAt, writeThread, nextOf, nextAt, writeAll, maskAll, r0l}
 use Rattle.machine.proofs.Tab.{getD-tab, each-cong}
 use Rattle.machine.proofs.Masks.{pack-cong}
-use Rattle.lanes.specs.Results.{storeLane, zeroAt}
+use Rattle.lanes.specs.Results.{storeLane, storeAll, zeroAt}
 
 -- an integer modulo two to a number of bits, modulo two to fewer
 pub modulo-mod : (z : ℤ) (j k : ℕ) → modulo z (j + k) % 2 ^ k ≡ modulo z k
@@ -47,9 +47,8 @@ unfolding activeIn
 all-active t h =
     let m : ℕ = 31 - t in
     let e : 32 ≡ suc m + t = omega arith in
-    let d : 4294967295 / 2 ^ t ≡ 2 ^ suc m - 1 =
-        ap (λ (x : ℕ). (2 ^ x - 1) / 2 ^ t) e ∙ ap (λ (x : ℕ). x / 2 ^ t) (ones-split (suc m) t) ∙ high (2 ^ suc m - 1) t (ones-lt t)
-    in
+    let s : 4294967295 ≡ (2 ^ suc m - 1) * 2 ^ t + (2 ^ t - 1) = ap (λ (x : ℕ). 2 ^ x - 1) e ∙ ones-split (suc m) t in
+    let d : 4294967295 / 2 ^ t ≡ 2 ^ suc m - 1 = ap (λ (x : ℕ). x / 2 ^ t) s ∙ high (2 ^ suc m - 1) t (ones-lt t) in
     eq-eqb (4294967295 / 2 ^ t % 2) 1 (ap (λ (x : ℕ). x % 2) d ∙ omega (arith, pow-pos m))
 
 module _ (result : Result) (sources : List (List ℕ)) (values : List ℕ)
@@ -61,12 +60,12 @@ module _ (result : Result) (sources : List (List ℕ)) (values : List ℕ)
   value-at d t h =
       ap (λ (l : List ℕ). getD l t 0 % 2 ^ destinationSize d) e
       ∙ ap (λ (x : ℕ). x % 2 ^ destinationSize d)
-        (getD-tab 32 (λ t. modulo (result (sourceAt sources 0 t) (sourceAt sources 1 t) (sourceAt sources 2 t)) 64) t 0 h)
+      (getD-tab 32 (λ t. modulo (result (sourceAt sources 0 t) (sourceAt sources 1 t) (sourceAt sources 2 t)) 64) t 0 h)
       ∙ size-mod d (result (sourceAt sources 0 t) (sourceAt sources 1 t) (sourceAt sources 2 t))
 
   -- a data instruction
   pub write-all : (d : Destination) (mask : ℕ) (registers : List ℕ)
-      → each 32 (storeLane values mask d) registers ≡ writeAll d result mask sources registers
+      → storeAll values mask d registers ≡ writeAll d result mask sources registers
   unfolding storeLane writeAll writeThread
   write-all d mask registers =
       each-cong 32 (storeLane values mask d)
@@ -75,13 +74,13 @@ module _ (result : Result) (sources : List (List ℕ)) (values : List ℕ)
 
   -- a mask instruction writes r0l of every thread, active or not
   pub mask-registers : (registers : List ℕ)
-      → each 32 (storeLane values 4294967295 r0l) registers ≡ maskAll result sources registers .registers
+      → storeAll values 4294967295 r0l registers ≡ maskAll result sources registers .registers
   unfolding storeLane maskAll nextAt nextOf
   mask-registers registers =
       each-cong 32 (storeLane values 4294967295 r0l) (λ t. storeOf r0l t (nextAt result sources t))
       (λ t h words.
-        ap (λ (on : Bool). cond on (storeOf r0l t (getD values t 0 % 2 ^ 16) words) words) (all-active t h)
-        ∙ ap (λ (v : ℕ). storeOf r0l t v words) (value-at r0l t h)) registers
+      ap (λ (on : Bool). cond on (storeOf r0l t (getD values t 0 % 2 ^ 16) words) words) (all-active t h)
+      ∙ ap (λ (v : ℕ). storeOf r0l t v words) (value-at r0l t h)) registers
 
   -- and makes a new mask
   pub mask-bits : (registers : List ℕ) → pack 32 (zeroAt values) ≡ maskAll result sources registers .mask

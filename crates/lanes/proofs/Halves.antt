@@ -13,7 +13,7 @@ place-lt true = omega arith
 place-lt false = omega arith
 
 module _ (h word : ℕ) (b : word < 2 ^ 32) where
-  -- a half is the low 16 bits of the word, moved down to its place
+  -- a half is the 16 bits of the word from its place on
   pub half-part : word / 2 ^ cond (eqb (h % 2) 0) 0 16 % 2 ^ 16 ≡ halfOf h word
   half-part = go (eqb (h % 2) 0)
     where
@@ -21,7 +21,7 @@ module _ (h word : ℕ) (b : word < 2 ^ 32) where
       go true = omega arith
       go false = omega arith
 
-  -- the bits of the other half, and the value moved up to its place
+  -- with a new half, a word is the bits of the other half and the value at its place
   pub half-merge : (x : ℕ)
       → bitOr (bitAnd word (cond (eqb (h % 2) 0) 4294901760 65535)) (x % 2 ^ 16 * 2 ^ cond (eqb (h % 2) 0) 0 16 % 2 ^ 32)
       ≡ withHalf h (x % 2 ^ 16) word
@@ -31,7 +31,8 @@ module _ (h word : ℕ) (b : word < 2 ^ 32) where
           → bitOr (bitAnd word (cond even 4294901760 65535)) (x % 2 ^ 16 * 2 ^ cond even 0 16 % 2 ^ 32)
           ≡ cond even (word / 2 ^ 16 * 2 ^ 16 + x % 2 ^ 16) (x % 2 ^ 16 * 2 ^ 16 + word % 2 ^ 16)
       go true =
-          let k : bitAnd word 4294901760 ≡ word / 2 ^ 16 * 2 ^ 16 = and-high word 16 16 ∙ ap (λ (y : ℕ). y * 2 ^ 16) (shr-mod 16 16 b) in
+          let q = shr-mod 16 16 b in
+          let k : bitAnd word 4294901760 ≡ word / 2 ^ 16 * 2 ^ 16 = and-high word 16 16 ∙ ap (λ (y : ℕ). y * 2 ^ 16) q in
           let s : x % 2 ^ 16 * 1 % 2 ^ 32 ≡ x % 2 ^ 16 = omega arith in
           ap₂ bitOr k s ∙ or-shifted (word / 2 ^ 16) 16 (x % 2 ^ 16) (omega arith)
       go false =

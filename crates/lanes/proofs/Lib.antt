@@ -2,4 +2,5 @@ pub mod Rows
 pub mod Halves
 pub mod Bounds
 pub mod Stores
+pub mod OneBit
 pub mod Columns

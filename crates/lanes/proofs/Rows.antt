@@ -13,7 +13,7 @@ module _ (f : ℕ → ℕ) (t : ℕ) (row row₀ : List ℕ) (e : row ≡ filled
   pub row-next : (v : ℕ) → t < 32 → v ≡ f t → set row t v ≡ filled f (t + 1) row₀
   row-next v h w = ap (λ (l : List ℕ). set l t v) e ∙ filled-more f t row₀ v (omega arith) w
 
-  -- and the last
+  -- all of them
   pub row-done : t ≤ 32 → 32 ≤ t → row ≡ tab 32 f
   row-done h k =
       let all : t ≡ 32 = omega arith in

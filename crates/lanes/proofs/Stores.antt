@@ -2,17 +2,16 @@
 use mathlib.Core.Path.{_≡_, refl, sym, ap, ap₂, _∙_}
 use mathlib.Core.Bool.{Bool, true, false, cond}
 use mathlib.Core.List.{List}
-use mathlib.Core.Logic.{_≢_}
 use Prim.Native.Nat.{ℕ, zero, suc, _+_, _*_, _/_, _%_, _^_, _≤_, _<_}
 use native.Mathlib.Omega.{arith}
 use lib.ListN.{getD, set}
-use lib.Pow.{mod-mod-pow, field, pow-mono, shl-exact}
+use lib.Pow.{mod-mod-pow, field}
 use lib.Seq.{set-getD, set-comm, getD-set-other}
 use Rattle.isa.specs.declared.operand.Destination.{Destination}
 use Rattle.machine.specs.Lanes.{tab, each, activeIn}
 use Rattle.machine.specs.Words.{withHalf, wordAt, storeOf}
 use Rattle.machine.proofs.Tab.{getD-tab, each-cong}
-use Rattle.lanes.specs.Results.{storeLane, wordLane, lowOf, highOf, mergedAt}
+use Rattle.lanes.specs.Results.{storeLane, storeAll, wordLane, lowOf, highOf, mergedAt}
 
 -- ---- changes for each thread in turn
 
@@ -38,7 +37,7 @@ each-both zero f g h s = refl
 each-both (suc n) f g h s =
     ap (g n)
     (each-past n (f n) g (λ t k. h t n k (omega arith)) (each n f s)
-      ∙ ap (f n) (each-both n f g (λ t u p q. h t u p (omega arith)) s))
+    ∙ ap (f n) (each-both n f g (λ t u p q. h t u p (omega arith)) s))
 
 -- ---- one word of a thread
 
@@ -49,9 +48,12 @@ module _ (row : List ℕ) (mask r : ℕ) where
   unfolding wordLane
   lane t v words e = go (activeIn mask t)
     where
-      go : (on : Bool) → set words (32 * r + t) (cond on (getD row t 0) (wordAt words r t)) ≡ cond on (set words (32 * r + t) v) words
-      go true = ap (set words (32 * r + t)) e
-      go false = set-getD words (32 * r + t) 0
+      i : ℕ
+      i = 32 * r + t
+
+      go : (on : Bool) → set words i (cond on (getD row t 0) (getD words i 0)) ≡ cond on (set words i v) words
+      go true = ap (set words i) e
+      go false = set-getD words i 0
 
   -- no thread writes the word of one after it
   later : (registers : List ℕ) (n t : ℕ) → n ≤ t → wordAt (each n (wordLane row mask r) registers) r t ≡ wordAt registers r t
@@ -67,23 +69,27 @@ swap : (row row′ : List ℕ) (mask r r′ t u : ℕ) → (32 * r + u ≡ 32 * 
     → wordLane row′ mask r′ t (wordLane row mask r u words) ≡ wordLane row mask r u (wordLane row′ mask r′ t words)
 unfolding wordLane
 swap row row′ mask r r′ t u ne words =
-    ap (λ (x : ℕ). set (set words i a) j (cond (activeIn mask t) (getD row′ t 0) x)) (getD-set-other words i j a 0 (λ e. ne (sym e)))
+    ap (λ (x : ℕ). set (set words i a) j (cond (activeIn mask t) (getD row′ t 0) x))
+    (getD-set-other words i j a 0 (λ e. ne (sym e)))
     ∙ set-comm words i j a b ne
     ∙ ap (λ (x : ℕ). set (set words j b) i (cond (activeIn mask u) (getD row u 0) x)) (sym (getD-set-other words j i b 0 ne))
   where
     i : ℕ
     i = 32 * r + u
+
     j : ℕ
     j = 32 * r′ + t
+
     a : ℕ
     a = cond (activeIn mask u) (getD row u 0) (getD words i 0)
+
     b : ℕ
     b = cond (activeIn mask t) (getD row′ t 0) (getD words j 0)
 
 -- ---- the kinds of destination
 
 pub put-words : (values : List ℕ) (mask r : ℕ) (registers : List ℕ)
-    → each 32 (wordLane (tab 32 (lowOf values)) mask r) registers ≡ each 32 (storeLane values mask (Destination.Register r)) registers
+    → each 32 (wordLane (tab 32 (lowOf values)) mask r) registers ≡ storeAll values mask (Destination.Register r) registers
 unfolding storeLane storeOf
 put-words values mask r registers =
     each-cong 32 (wordLane (tab 32 (lowOf values)) mask r) (storeLane values mask (Destination.Register r))
@@ -91,61 +97,52 @@ put-words values mask r registers =
 
 pub put-halves : (values : List ℕ) (mask h : ℕ) (registers : List ℕ)
     → each 32 (wordLane (tab 32 (mergedAt registers h (tab 32 (lowOf values)))) mask (h / 2)) registers
-    ≡ each 32 (storeLane values mask (Destination.Half h)) registers
+    ≡ storeAll values mask (Destination.Half h) registers
 unfolding storeLane storeOf
 put-halves values mask h registers =
     each-at 32 (wordLane row mask (h / 2)) (storeLane values mask (Destination.Half h)) registers (λ t k.
-      lane row mask (h / 2) t
-      (withHalf h (getD values t 0 % 2 ^ 16) (wordAt (each t (wordLane row mask (h / 2)) registers) (h / 2) t))
-      (each t (wordLane row mask (h / 2)) registers)
-      (getD-tab 32 (mergedAt registers h low) t 0 k
-        ∙ ap₂ (withHalf h)
-          (ap (λ (x : ℕ). x % 2 ^ 16) (getD-tab 32 (lowOf values) t 0 k) ∙ mod-mod-pow (getD values t 0) 16 16)
-          (sym (later row mask (h / 2) registers t t (omega arith)))))
+    lane row mask (h / 2) t
+    (withHalf h (getD values t 0 % 2 ^ 16) (wordAt (each t (wordLane row mask (h / 2)) registers) (h / 2) t))
+    (each t (wordLane row mask (h / 2)) registers)
+    (getD-tab 32 (mergedAt registers h low) t 0 k
+    ∙ ap₂ (withHalf h)
+    (ap (λ (x : ℕ). x % 2 ^ 16) (getD-tab 32 (lowOf values) t 0 k) ∙ mod-mod-pow (getD values t 0) 16 16)
+    (sym (later row mask (h / 2) registers t t (omega arith)))))
   where
     low : List ℕ
     low = tab 32 (lowOf values)
+
     row : List ℕ
     row = tab 32 (mergedAt registers h low)
 
 pub put-pairs : (values : List ℕ) (mask r : ℕ) (registers : List ℕ)
     → each 32 (wordLane (tab 32 (highOf values)) mask (r + 1)) (each 32 (wordLane (tab 32 (lowOf values)) mask r) registers)
-    ≡ each 32 (storeLane values mask (Destination.Pair r)) registers
+    ≡ storeAll values mask (Destination.Pair r) registers
 unfolding storeLane storeOf
 put-pairs values mask r registers =
     each-both 32 (wordLane low mask r) (wordLane high mask (r + 1))
     (λ t u p q words. swap low high mask r (r + 1) t u (λ e. omega arith) words) registers
-    ∙ each-cong 32 (λ t words. wordLane high mask (r + 1) t (wordLane low mask r t words)) (storeLane values mask (Destination.Pair r))
-      (λ t k words. pair t k words) registers
+    ∙ each-cong 32 (λ t words. wordLane high mask (r + 1) t (wordLane low mask r t words))
+    (storeLane values mask (Destination.Pair r)) pair registers
   where
     low : List ℕ
     low = tab 32 (lowOf values)
+
     high : List ℕ
     high = tab 32 (highOf values)
+
     both : (on : Bool) (i j a a′ b b′ : ℕ) (words : List ℕ) → a ≡ a′ → b ≡ b′
-        → cond on (set (cond on (set words i a) words) j b) (cond on (set words i a) words) ≡ cond on (set (set words i a′) j b′) words
+        → cond on (set (cond on (set words i a) words) j b) (cond on (set words i a) words)
+        ≡ cond on (set (set words i a′) j b′) words
     both true i j a a′ b b′ words p q = ap₂ (λ (x y : ℕ). set (set words i x) j y) p q
     both false i j a a′ b b′ words p q = refl
+
     pair : (t : ℕ) → t < 32 → (words : List ℕ)
         → wordLane high mask (r + 1) t (wordLane low mask r t words) ≡ storeLane values mask (Destination.Pair r) t words
     pair t k words =
         ap (wordLane high mask (r + 1) t) (lane low mask r t (lowOf values t) words (getD-tab 32 (lowOf values) t 0 k))
         ∙ lane high mask (r + 1) t (highOf values t) (cond (activeIn mask t) (set words (32 * r + t) (lowOf values t)) words)
-          (getD-tab 32 (highOf values) t 0 k)
+        (getD-tab 32 (highOf values) t 0 k)
         ∙ both (activeIn mask t) (32 * r + t) (32 * (r + 1) + t) (lowOf values t) (getD values t 0 % 2 ^ 64 % 2 ^ 32)
-          (highOf values t) (getD values t 0 % 2 ^ 64 / 2 ^ 32) words
-          (sym (mod-mod-pow (getD values t 0) 32 32)) (sym (field (getD values t 0) 32 32))
-
--- ---- a bit of a mask
-
-pub one-bit : (t : ℕ) → t < 32 → 1 * 2 ^ t % 2 ^ 32 ≡ 2 ^ t
-one-bit t h = shl-exact 1 t 32 (omega arith) (omega arith) ∙ omega arith
-
-pub bit-fits : (mask t : ℕ) (on : Bool) → t < 32 → mask < 2 ^ t → mask + cond on (2 ^ t) 0 < 2 ^ 32
-bit-fits mask t on h k = go on
-  where
-    p : 2 ^ suc t ≤ 2 ^ 32
-    p = pow-mono {i = suc t} {j = 32} h
-    go : (on : Bool) → mask + cond on (2 ^ t) 0 < 2 ^ 32
-    go true = omega (arith, p)
-    go false = omega (arith, p)
+        (highOf values t) (getD values t 0 % 2 ^ 64 / 2 ^ 32) words
+        (sym (mod-mod-pow (getD values t 0) 32 32)) (sym (field (getD values t 0) 32 32))

@@ -5,13 +5,16 @@ use mathlib.Core.List.{List}
 use lib.Dec.{eqb}
 use lib.ListN.{getD, set}
 use Rattle.isa.specs.declared.operand.Destination.{Destination}
-use Rattle.machine.specs.Lanes.{activeIn}
+use Rattle.machine.specs.Lanes.{each, activeIn}
 use Rattle.machine.specs.Words.{withHalf, wordAt, storeOf, destinationSize}
 
 -- an active thread's destination takes its value, modulo two to the destination's size
 unfoldable pub storeLane : List ℕ → ℕ → Destination → ℕ → List ℕ → List ℕ
 storeLane values mask d t words =
     cond (activeIn mask t) (storeOf d t (getD values t 0 % 2 ^ destinationSize d) words) words
+
+abbrev pub storeAll : List ℕ → ℕ → Destination → List ℕ → List ℕ
+storeAll values mask d registers = each 32 (storeLane values mask d) registers
 
 -- bit t of a mask of zeros
 abbrev pub zeroAt : List ℕ → ℕ → Bool

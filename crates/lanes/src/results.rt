@@ -2,22 +2,15 @@
 // that the compiler sees that what a loop reads is not what it writes.
 ghost use mathlib.Core.Path.{_≡_};
 ghost use mathlib.Core.Bool.{cond};
-ghost use Prim.Native.Nat.{ℕ, _+_, _*_, _/_, _%_, _^_, _≤_, _<_};
+ghost use Prim.Native.Nat.{_+_, _*_, _/_, _%_, _^_, _≤_, _<_};
 ghost use lib.Bits.{bitAnd, bitOr};
-ghost use lib.ListN.{length, getD};
-ghost use Rattle.machine.specs.Lanes.{tab, each, activeIn, pack};
+ghost use lib.ListN.{length};
 ghost use Rattle.isa.specs.declared.operand.Destination.{Destination};
+ghost use Rattle.machine.specs.Lanes.{tab, each, activeIn, pack};
 ghost use Rattle.machine.specs.Words.{destinationReach};
-ghost use Rattle.lanes.specs.Results.{lowOf, highOf, mergedAt, wordLane, storeLane, zeroAt};
-
-use crate::half;
+ghost use Rattle.lanes.specs.Results.{lowOf, highOf, mergedAt, wordLane, storeAll, zeroAt};
+use crate::register;
 use isa::operand::Destination;
-
-fn index(r: u8) -> usize
-    ensures { λ i. ⌜ i ≡ r ⌝ }
-{
-    r as usize
-}
 
 fn active(mask: u32, t: usize) -> bool
     requires { ⌜ t < 32 ⌝ }
@@ -66,14 +59,14 @@ fn merge(word: u32, other: u32, x: u32, place: u32) -> u32
     (word & other) | (x % 65536 << place)
 }
 
-// Each value of the row becomes the word of the half's register with that value for the half.
+// Each value of the row becomes the word of half h's register, with the value for that half.
 fn merged(registers: &[u32], h: u8, row: &mut [u32; 32])
     requires { ⌜ (length (now row) ≡ 32) × (32 * (h / 2 + 1) ≤ length (now registers)) ⌝ }
     ensures { λ _. ⌜ now (row .exit) ≡ tab 32 (mergedAt (now (registers .entry)) h (now (row .entry))) ⌝ }
 {
-    let base = 32 * index(h / 2);
-    let other = half::other(h as u16);
-    let place = half::place(h as u16);
+    let base = 32 * register::index(h / 2);
+    let other = register::other(h as u16);
+    let place = register::place(h as u16);
     let mut t = 0;
     while t < 32 {
         let x = row[t];
@@ -101,28 +94,28 @@ fn put(registers: &mut [u32], r: usize, mask: u32, row: &[u32; 32])
 
 fn halves(registers: &mut [u32], h: u8, mask: u32, values: &[u64; 32])
     requires { ⌜ 32 * (h / 2 + 1) ≤ length (now registers) ⌝ }
-    ensures { λ _. ⌜ now (registers .exit) ≡ each 32 (storeLane (now (values .entry)) mask (Destination.Half h)) (now (registers .entry)) ⌝ }
+    ensures { λ _. ⌜ now (registers .exit) ≡ storeAll (now (values .entry)) mask (Destination.Half h) (now (registers .entry)) ⌝ }
 {
     let mut row = [0u32; 32];
     lows(values, &mut row);
     merged(registers, h, &mut row);
-    put(registers, index(h / 2), mask, &row);
+    put(registers, register::index(h / 2), mask, &row);
 }
 
 fn words(registers: &mut [u32], r: u8, mask: u32, values: &[u64; 32])
     requires { ⌜ 32 * (r + 1) ≤ length (now registers) ⌝ }
-    ensures { λ _. ⌜ now (registers .exit) ≡ each 32 (storeLane (now (values .entry)) mask (Destination.Register r)) (now (registers .entry)) ⌝ }
+    ensures { λ _. ⌜ now (registers .exit) ≡ storeAll (now (values .entry)) mask (Destination.Register r) (now (registers .entry)) ⌝ }
 {
     let mut row = [0u32; 32];
     lows(values, &mut row);
-    put(registers, index(r), mask, &row);
+    put(registers, register::index(r), mask, &row);
 }
 
 fn pairs(registers: &mut [u32], r: u8, mask: u32, values: &[u64; 32])
     requires { ⌜ 32 * (r + 2) ≤ length (now registers) ⌝ }
-    ensures { λ _. ⌜ now (registers .exit) ≡ each 32 (storeLane (now (values .entry)) mask (Destination.Pair r)) (now (registers .entry)) ⌝ }
+    ensures { λ _. ⌜ now (registers .exit) ≡ storeAll (now (values .entry)) mask (Destination.Pair r) (now (registers .entry)) ⌝ }
 {
-    let first = index(r);
+    let first = register::index(r);
     let mut row = [0u32; 32];
     lows(values, &mut row);
     put(registers, first, mask, &row);
@@ -133,7 +126,7 @@ fn pairs(registers: &mut [u32], r: u8, mask: u32, values: &[u64; 32])
 // The results of the active threads, each modulo two to the destination's size.
 pub fn store(registers: &mut [u32], d: Destination, mask: u32, values: &[u64; 32])
     requires { ⌜ 32 * destinationReach d ≤ length (now registers) ⌝ }
-    ensures { λ _. ⌜ now (registers .exit) ≡ each 32 (storeLane (now (values .entry)) mask d) (now (registers .entry)) ⌝ }
+    ensures { λ _. ⌜ now (registers .exit) ≡ storeAll (now (values .entry)) mask d (now (registers .entry)) ⌝ }
 {
     match d {
         Destination::Half(h) => halves(registers, h, mask, values),

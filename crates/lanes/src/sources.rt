@@ -7,16 +7,9 @@ ghost use Rattle.machine.specs.Lanes.{tab};
 ghost use Rattle.machine.specs.Words.{halfOf, pairOf, wordAt, sourceValue, valueOf, sourceSize, inputSize, sourceReach};
 ghost use Rattle.machine.specs.Step.{gatherOf};
 ghost use Rattle.lanes.specs.Sources.{Row, Bounded, Reached, halfAt, pairAt, lent};
-
-use crate::half;
+use crate::register;
 use isa::operand::Source;
 use machine::input::Input;
-
-fn index(r: u8) -> usize
-    ensures { λ i. ⌜ i ≡ r ⌝ }
-{
-    r as usize
-}
 
 fn wide(x: u32) -> u64
     ensures { λ r. ⌜ r ≡ x ⌝ }
@@ -57,8 +50,8 @@ fn halves(file: &[u32], h: u8, row: &mut [u64; 32])
     requires { ⌜ 32 * (h / 2 + 1) ≤ length (now file) ⌝ }
     ensures { λ _. ⌜ now (row .exit) ≡ tab 32 (halfAt (now (file .entry)) h) ⌝ }
 {
-    let base = 32 * index(h / 2);
-    let place = half::place(h as u16);
+    let base = 32 * register::index(h / 2);
+    let place = register::place(h as u16);
     let mut out = [0u64; 32];
     let mut t = 0;
     while t < 32 {
@@ -107,13 +100,13 @@ fn uniform_half(uniforms: &[u32], h: u16) -> u64
     ensures { λ r. ⌜ r ≡ halfOf h (getD (now (uniforms .entry)) (h / 2) 0) ⌝ }
 {
     let i = (h / 2) as usize;
-    part(uniform(uniforms, i), half::place(h))
+    part(uniform(uniforms, i), register::place(h))
 }
 
 fn uniform_pair(uniforms: &[u32], r: u8) -> u64
     ensures { λ v. ⌜ v ≡ pairOf (getD (now (uniforms .entry)) r 0) (getD (now (uniforms .entry)) (r + 1) 0) ⌝ }
 {
-    let i = index(r);
+    let i = register::index(r);
     pair(uniform(uniforms, i), uniform(uniforms, i + 1))
 }
 
@@ -125,10 +118,10 @@ fn source(registers: &[u32], uniforms: &[u32], s: Source, row: &mut [u64; 32])
 {
     match s {
         Source::Half(h) => halves(registers, h, row),
-        Source::Register(r) => words(registers, index(r), row),
-        Source::Pair(r) => pairs(registers, index(r), row),
+        Source::Register(r) => words(registers, register::index(r), row),
+        Source::Pair(r) => pairs(registers, register::index(r), row),
         Source::UniformHalf(h) => fill(uniform_half(uniforms, h), row),
-        Source::UniformRegister(r) => fill(wide(uniform(uniforms, index(r))), row),
+        Source::UniformRegister(r) => fill(wide(uniform(uniforms, register::index(r))), row),
         Source::UniformPair(r) => fill(uniform_pair(uniforms, r), row),
         Source::Immediate(v) => fill(v as u64, row),
     }
@@ -136,7 +129,8 @@ fn source(registers: &[u32], uniforms: &[u32], s: Source, row: &mut [u64; 32])
 
 fn input(registers: &[u32], uniforms: &[u32], specials: &[u32], x: Input, row: &mut [u64; 32])
     requires { ⌜ (now row ≡ replicate 32 0) × Reached x (now registers) (now specials) ⌝ }
-    ensures { λ _. ⌜ Row (now (row .exit)) (valueOf (lent (now (uniforms .entry)) (now (specials .entry))) (now (registers .entry)) x) (inputSize x) ⌝ }
+    ensures { λ _. ⌜ Row (now (row .exit))
+        (valueOf (lent (now (uniforms .entry)) (now (specials .entry))) (now (registers .entry)) x) (inputSize x) ⌝ }
 {
     match x {
         Input::Nothing => {}
@@ -144,14 +138,25 @@ fn input(registers: &[u32], uniforms: &[u32], specials: &[u32], x: Input, row: &
             let s = a.source;
             source(registers, uniforms, s, row);
         }
-        Input::Special(k) => words(specials, index(k), row),
+        Input::Special(k) => words(specials, register::index(k), row),
     }
 }
 
 // All sources of all threads.
-pub fn gather(registers: &[u32], uniforms: &[u32], specials: &[u32], a: Input, b: Input, c: Input, sources: &mut [[u64; 32]; 3])
-    requires { ⌜ (now sources ≡ replicate 3 (replicate 32 0)) × Reached a (now registers) (now specials) × Reached b (now registers) (now specials) × Reached c (now registers) (now specials) ⌝ }
-    ensures { λ _. ⌜ (now (sources .exit) ≡ gatherOf (lent (now (uniforms .entry)) (now (specials .entry))) (now (registers .entry)) a b c) × Bounded (now (sources .exit)) a b c ⌝ }
+pub fn gather(
+    registers: &[u32],
+    uniforms: &[u32],
+    specials: &[u32],
+    a: Input,
+    b: Input,
+    c: Input,
+    sources: &mut [[u64; 32]; 3],
+)
+    requires { ⌜ (now sources ≡ replicate 3 (replicate 32 0)) × Reached a (now registers) (now specials)
+        × Reached b (now registers) (now specials) × Reached c (now registers) (now specials) ⌝ }
+    ensures { λ _. ⌜ (now (sources .exit)
+        ≡ gatherOf (lent (now (uniforms .entry)) (now (specials .entry))) (now (registers .entry)) a b c)
+        × Bounded (now (sources .exit)) a b c ⌝ }
 {
     input(registers, uniforms, specials, a, &mut sources[0]);
     input(registers, uniforms, specials, b, &mut sources[1]);

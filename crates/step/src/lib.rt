@@ -8,7 +8,6 @@ ghost use Rattle.action.specs.Action.{meaningBy, FittingBy};
 ghost use Rattle.lanes.specs.Sources.{lent};
 ghost use Rattle.step.specs.Told.{told, toldBy, takenBy};
 
-mod effect;
 pub mod record;
 
 use action::Action;
@@ -33,10 +32,10 @@ fn take(action: Action, bytes: usize, size: usize, registers: &mut [u32], unifor
     ensures { λ r. ⌜ told r (now (registers .exit))
         ≡ takenBy (meaningBy action) bytes size (lent (now (uniforms .entry)) (now (specials .entry))) (stateAt (threadsAt (now (registers .entry)) mask) address) ⌝ }
 {
-    if registers.len() < 32 * going::registers_reach(action) {
+    if registers.len() / 32 < going::registers_reach(action) {
         return Turn::Stops(Refusal::NoRegister);
     }
-    if specials.len() < 32 * going::specials_reach(action) {
+    if specials.len() / 32 < going::specials_reach(action) {
         return Turn::Stops(Refusal::NoSpecial);
     }
     match going::goes_to(action, size, bytes, address, mask) {

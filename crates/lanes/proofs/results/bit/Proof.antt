@@ -1,6 +1,6 @@
 -- A bit below 32 fits the word.
 use borrow.Author.Needs.{needs}
-use Rattle.lanes.proofs.Stores.{one-bit}
+use Rattle.lanes.proofs.OneBit.{one-bit}
 use Rattle.lanes.proofs.results.bit.Statement.{statement}
 use Rattle.lanes.proofs.results.bit.Tie as tie
 

@@ -17,7 +17,8 @@ lows-requires c κs = search needs
 
 merged-requires : tie.Need-merged-requires
 merged-requires c κs =
-    (ap length (c .before .before .lows .ensures) ∙ length-tab 32 (lowOf (now (c .before .before .before .before .before .args .values))), c .before .before .before .before .before .pre)
+    let s = c .before .before .before .before .before in
+    (ap length (c .before .before .lows .ensures) ∙ length-tab 32 (lowOf (now (s .args .values))), s .pre)
 
 index-requires : tie.Need-index-requires
 index-requires c κs = search needs
@@ -32,13 +33,12 @@ returns : tie.Need-returns
 returns c =
     let a = c .before .before .before .before .before .before .before .before .before .before .before .before .args in
     let registers = now (a .registers) in
+    let low = c .before .before .before .before .before .before .before .before .before .lows .ensures in
+    let merged = c .before .before .before .before .before .before .merged .ensures in
+    let row = merged ∙ ap (λ (l : List ℕ). tab 32 (mergedAt registers (a .h) l)) low in
+    let r = c .before .before .before .before .index .ensures in
     c .before .before .put .ensures
-    ∙ (λ i.
-      each 32
-      (wordLane
-      ((c .before .before .before .before .before .before .merged .ensures
-        ∙ ap (λ (row : List ℕ). tab 32 (mergedAt registers (a .h) row)) (c .before .before .before .before .before .before .before .before .before .lows .ensures)) i)
-      (a .mask) (c .before .before .before .before .index .ensures i)) registers)
+    ∙ (λ i. each 32 (wordLane (row i) (a .mask) (r i)) registers)
     ∙ put-halves (now (a .values)) (a .mask) (a .h) registers
 
 pub halves-spec : {M : Type 1} → statement M

@@ -1,9 +1,9 @@
 -- The row holds the words of the threads passed.
-use Prim.Native.Nat.{_-_, _≤_, _/_, _%_, _^_}
+use Prim.Native.Nat.{_-_, _≤_}
 use mathlib.Core.Path.{_≡_, refl}
 use native.Mathlib.Omega.{arith}
 use denote.Ref.{now}
-use lib.ListN.{getD, replicate}
+use lib.ListN.{replicate}
 use Rattle.machine.proofs.Tab.{filled, filled-none}
 use Rattle.lanes.specs.Results.{lowOf}
 use Rattle.lanes.proofs.Rows.{row-next, row-done}
@@ -44,15 +44,17 @@ loop-less c = omega arith
 loop-again : tie.Need-loop-again Inv-loop μ-loop
 loop-again c =
     let l = c .before .before .loop in
-    let values = now (c .before .before .before .args .values) in
-    (omega arith,
-    row-next (lowOf values) (l .t) (l .out) (replicate 32 0) (l .inv .1) refl (lowOf values (l .t)) (c .before .loop-test .taken) refl)
+    let values = now (c .before .before .before .args .values) in (
+      omega arith,
+      row-next (lowOf values) (l .t) (l .out) (replicate 32 0) (l .inv .1) refl (lowOf values (l .t))
+          (c .before .loop-test .taken) refl,
+    )
 
 returns : tie.Need-returns Inv-loop μ-loop
 returns c =
     let l = c .before .loop in
-    row-done (lowOf (now (c .before .before .args .values))) (l .t) (l .out) (replicate 32 0) (l .inv .1) refl (l .inv .0)
-    (c .loop-test .left)
+    let values = now (c .before .before .args .values) in
+    row-done (lowOf values) (l .t) (l .out) (replicate 32 0) (l .inv .1) refl (l .inv .0) (c .loop-test .left)
 
 pub lows-spec : {M : Type 1} → statement M
 lows-spec =

@@ -1,7 +1,6 @@
 -- The row holds the new words of the threads passed, and behind them the values of the others.
 use Prim.Native.Nat.{ℕ, _+_, _-_, _*_, _/_, _%_, _^_, _≤_}
-use mathlib.Core.Path.{_≡_, refl, ap, _∙_}
-use mathlib.Core.Bool.{cond}
+use mathlib.Core.Path.{_≡_, _∙_}
 use native.Mathlib.Omega.{arith}
 use borrow.Author.Needs.{needs}
 use denote.Ref.{now}
@@ -74,28 +73,28 @@ loop-again c =
     let l = c .before .before .before .before .loop in
     let a = c .before .before .before .before .before .before .before .before .before .args in
     let registers = now (a .registers) in
-    (omega arith,
-    row-next (mergedAt registers (a .h) (now (a .row))) (l .t) (l .row) (now (a .row)) (l .inv .1) (l .inv .2) (c .merge .result)
-    (c .before .before .before .loop-test .taken)
-    (c .merge .ensures
-      ∙ (λ i.
-        bitOr
-        (bitAnd (getD registers (32 * c .before .before .before .before .before .before .before .index .ensures i + l .t) 0)
-        (c .before .before .before .before .before .before .other .ensures i))
-        (row-rest (mergedAt registers (a .h) (now (a .row))) (l .t) (l .row) (now (a .row)) (l .inv .1) (l .inv .2)
-          (c .before .before .before .loop-test .taken) i
-          % 2 ^ 16 * 2 ^ c .before .before .before .before .before .place .ensures i % 2 ^ 32))
-      ∙ half-merge (a .h) (getD registers (32 * (a .h / 2) + l .t) 0)
-        (c .before .before .before .before .before .before .before .before .shared-slice-known .given (32 * (a .h / 2) + l .t) .fits)
-        (getD (now (a .row)) (l .t) 0)),
-    l .inv .2)
+    let row = now (a .row) in
+    let word : ℕ → ℕ = λ r. getD registers (32 * r + l .t) 0 in
+    let taken = c .before .before .before .loop-test .taken in
+    let x = row-rest (mergedAt registers (a .h) row) (l .t) (l .row) row (l .inv .1) (l .inv .2) taken in
+    let place = c .before .before .before .before .before .place .ensures in
+    let other = c .before .before .before .before .before .before .other .ensures in
+    let r = c .before .before .before .before .before .before .before .index .ensures in
+    let known = c .before .before .before .before .before .before .before .before .shared-slice-known .given in (
+      omega arith,
+      row-next (mergedAt registers (a .h) row) (l .t) (l .row) row (l .inv .1) (l .inv .2) (c .merge .result) taken
+          (c .merge .ensures
+          ∙ (λ i. bitOr (bitAnd (word (r i)) (other i)) (x i % 2 ^ 16 * 2 ^ place i % 2 ^ 32))
+          ∙ half-merge (a .h) (word (a .h / 2)) (known (32 * (a .h / 2) + l .t) .fits) (getD row (l .t) 0)),
+      l .inv .2,
+    )
 
 returns : tie.Need-returns Inv-loop μ-loop
 returns c =
     let l = c .before .loop in
     let a = c .before .before .before .before .before .before .args in
-    row-done (mergedAt (now (a .registers)) (a .h) (now (a .row))) (l .t) (l .row) (now (a .row)) (l .inv .1) (l .inv .2) (l .inv .0)
-    (c .loop-test .left)
+    row-done (mergedAt (now (a .registers)) (a .h) (now (a .row))) (l .t) (l .row) (now (a .row)) (l .inv .1) (l .inv .2)
+    (l .inv .0) (c .loop-test .left)
 
 pub merged-spec : {M : Type 1} → statement M
 merged-spec =

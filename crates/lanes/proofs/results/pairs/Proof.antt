@@ -32,16 +32,16 @@ same-length c = search needs
 
 returns : tie.Need-returns
 returns c =
-    let a = c .before .before .before .before .before .before .before .before .before .before .before .before .before .before .before .before .args in
-    let first = c .before .before .before .before .before .before .before .before .before .before .before .before .before .before .index in
-    let low = c .before .before .before .before .before .before .before .before .before .before .before .before .lows in
-    let put = c .before .before .before .before .before .before .before .before .before .put in
+    let first = c .before .before .before .before .before .before .before .before .before in
+    let index = first .before .before .before .before .before .index in
+    let a = first .before .before .before .before .before .before .before .args in
+    let low = first .before .before .before .lows in
     let high = c .before .before .before .before .before .highs in
     c .before .before .put2 .ensures
-    ∙ ap (each 32 (wordLane (high .last .1 .0) (a .mask) (first .result + 1))) (put .ensures)
+    ∙ ap (each 32 (wordLane (high .last .1 .0) (a .mask) (index .result + 1))) (first .put .ensures)
     ∙ (λ i.
-      each 32 (wordLane (high .ensures i) (a .mask) (first .ensures i + 1))
-      (each 32 (wordLane (low .ensures i) (a .mask) (first .ensures i)) (now (a .registers))))
+    each 32 (wordLane (high .ensures i) (a .mask) (index .ensures i + 1))
+    (each 32 (wordLane (low .ensures i) (a .mask) (index .ensures i)) (now (a .registers))))
     ∙ put-pairs (now (a .values)) (a .mask) (a .r) (now (a .registers))
 
 pub pairs-spec : {M : Type 1} → statement M

@@ -23,9 +23,10 @@ same-length c = search needs
 returns : tie.Need-returns
 returns c =
     let a = c .before .before .before .before .before .before .before .before .before .args in
+    let row = c .before .before .before .before .before .before .lows .ensures in
+    let r = c .before .before .before .before .index .ensures in
     c .before .before .put .ensures
-    ∙ (λ i.
-      each 32 (wordLane (c .before .before .before .before .before .before .lows .ensures i) (a .mask) (c .before .before .before .before .index .ensures i)) (now (a .registers)))
+    ∙ (λ i. each 32 (wordLane (row i) (a .mask) (r i)) (now (a .registers)))
     ∙ put-words (now (a .values)) (a .mask) (a .r) (now (a .registers))
 
 pub words-spec : {M : Type 1} → statement M

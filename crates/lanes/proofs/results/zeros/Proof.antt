@@ -1,15 +1,13 @@
 -- The mask has the bits of the threads passed.
-use Prim.Native.Nat.{ℕ, _+_, _-_, _%_, _^_, _≤_}
+use Prim.Native.Nat.{ℕ, _+_, _-_, _≤_}
 use mathlib.Core.Path.{_≡_, refl, ap₂, _∙_}
-use mathlib.Core.Bool.{cond}
 use native.Mathlib.Omega.{arith}
 use native.Mathlib.Numerals.{add-one}
-use borrow.Author.Needs.{needs}
 use denote.Ref.{now}
 use Rattle.machine.specs.Lanes.{pack}
 use Rattle.machine.proofs.Masks.{pack-lt}
 use Rattle.lanes.specs.Results.{zeroAt}
-use Rattle.lanes.proofs.Stores.{bit-fits}
+use Rattle.lanes.proofs.OneBit.{bit-fits}
 use Rattle.lanes.proofs.results.zeros.Statement.{statement}
 use Rattle.lanes.proofs.results.zeros.Tie as tie
 
@@ -37,11 +35,8 @@ add-mask : tie.Need-add-mask Inv-loop μ-loop
 add-mask c =
     let l = c .before .before .before .loop in
     let values = now (c .before .before .before .before .args .values) in
-    record {
-      fits =
-        rw (c .bit .ensures, l .inv .1)
-        (bit-fits (pack (l .t) (zeroAt values)) (l .t) (zeroAt values (l .t)) (c .before .before .loop-test .taken) (pack-lt (l .t) (zeroAt values)));
-    }
+    let fit = bit-fits (pack (l .t) (zeroAt values)) (l .t) (zeroAt values (l .t)) (c .before .before .loop-test .taken) in
+    record { fits = rw (c .bit .ensures, l .inv .1) (fit (pack-lt (l .t) (zeroAt values))) }
 
 add-t : tie.Need-add-t Inv-loop μ-loop
 add-t c = omega arith

@@ -34,10 +34,11 @@ loop-less c = omega arith
 loop-again : tie.Need-loop-again Inv-loop μ-loop
 loop-again c =
     let l = c .before .loop in
-    let a = c .before .before .args in
-    (omega arith,
-    row-next (λ (k : ℕ). a .v) (l .t) (l .row) (now (a .row)) (l .inv .1) (l .inv .2) (a .v) (c .loop-test .taken) refl,
-    l .inv .2)
+    let a = c .before .before .args in (
+      omega arith,
+      row-next (λ (k : ℕ). a .v) (l .t) (l .row) (now (a .row)) (l .inv .1) (l .inv .2) (a .v) (c .loop-test .taken) refl,
+      l .inv .2,
+    )
 
 returns : tie.Need-returns Inv-loop μ-loop
 returns c =

@@ -1,7 +1,6 @@
 -- The row holds the halves of the threads passed.
 use Prim.Native.Nat.{ℕ, _+_, _-_, _*_, _/_, _%_, _^_, _≤_}
-use mathlib.Core.Path.{_≡_, refl, ap₂, _∙_}
-use mathlib.Core.Bool.{cond}
+use mathlib.Core.Path.{_≡_, refl, _∙_}
 use native.Mathlib.Omega.{arith}
 use borrow.Author.Needs.{needs}
 use denote.Ref.{now}
@@ -44,7 +43,8 @@ shared-slice-read-part c = omega arith
 
 part-requires : tie.Need-part-requires Inv-loop μ-loop
 part-requires c κs =
-    rw (c .before .before .before .place .ensures) (place-lt (eqb (c .before .before .before .before .before .before .args .h % 2) 0))
+    rw (c .before .before .before .place .ensures)
+    (place-lt (eqb (c .before .before .before .before .before .before .args .h % 2) 0))
 
 mul-out : tie.Need-mul-out Inv-loop μ-loop
 mul-out c = omega arith
@@ -63,14 +63,16 @@ loop-again c =
     let l = c .before .before .before .loop in
     let a = c .before .before .before .before .before .before .before .args in
     let word : ℕ → ℕ = λ r. getD (now (a .file)) (32 * r + l .t) 0 in
-    (omega arith,
-    row-next (halfAt (now (a .file)) (a .h)) (l .t) (l .out) (replicate 32 0) (l .inv .1) refl (c .part .result)
-    (c .before .before .loop-test .taken)
-    (c .part .ensures
-      ∙ ap₂ (λ (r place : ℕ). word r / 2 ^ place % 2 ^ 16) (c .before .before .before .before .before .index .ensures)
-        (c .before .before .before .before .place .ensures)
-      ∙ half-part (a .h) (word (a .h / 2))
-        (c .before .before .before .before .before .before .shared-slice-known .given (32 * (a .h / 2) + l .t) .fits)))
+    let place = c .before .before .before .before .place .ensures in
+    let r = c .before .before .before .before .before .index .ensures in
+    let known = c .before .before .before .before .before .before .shared-slice-known .given in (
+      omega arith,
+      row-next (halfAt (now (a .file)) (a .h)) (l .t) (l .out) (replicate 32 0) (l .inv .1) refl (c .part .result)
+          (c .before .before .loop-test .taken)
+          (c .part .ensures
+          ∙ (λ i. word (r i) / 2 ^ place i % 2 ^ 16)
+          ∙ half-part (a .h) (word (a .h / 2)) (known (32 * (a .h / 2) + l .t) .fits)),
+    )
 
 returns : tie.Need-returns Inv-loop μ-loop
 returns c =

@@ -1,15 +1,13 @@
--- Each arm makes the row of its case of the input; where there is nothing to read it is the row of zeros that was lent.
-use Prim.Native.Nat.{ℕ, _+_, _*_, _≤_}
-use mathlib.Core.Path.{ap, _∙_, subst}
+-- Each arm makes the row of its case of the input; where there is nothing to read, it is the row of zeros that was lent.
+use Prim.Native.Nat.{ℕ, _+_, _*_}
+use mathlib.Core.Path.{ap, _∙_}
 use native.Mathlib.Omega.{arith}
 use borrow.Author.Needs.{needs}
 use denote.Ref.{now}
 use lib.ListN.{length}
 use Rattle.machine.specs.Lanes.{tab}
-use Rattle.machine.specs.Words.{wordAt, valueOf, inputReach, specialReach}
-use Rattle.machine.specs.declared.input.Input.{Input}
-use Rattle.lanes.specs.Sources.{Reached, lent}
-use Rattle.lanes.proofs.Bounds.{row-made, input-made}
+use Rattle.machine.specs.Words.{wordAt, valueOf}
+use Rattle.lanes.proofs.Bounds.{row-made}
 use Rattle.lanes.proofs.sources.input.Statement.{statement}
 use Rattle.lanes.proofs.sources.input.Tie as tie
 
@@ -21,8 +19,8 @@ enum-known-x c = search needs
 
 source-requires : tie.Need-source-requires
 source-requires c κs =
-    (ap length (c .before .before .before .before .before .before .before .pre .0),
-    subst (λ (x : Input). 32 * inputReach x ≤ length (now (c .before .before .before .before .before .before .before .args .registers))) (c .before .before .x .given .1) (c .before .before .before .before .before .before .before .pre .1 .0))
+    let p = c .before .before .before .before .before .before .before .pre in
+    (ap length (p .0), rw (c .before .before .x .given .1) at (p .1 .0))
 
 enum-known-x-2 : tie.Need-enum-known-x-2
 enum-known-x-2 c = search needs
@@ -32,33 +30,28 @@ index-requires c κs = search needs
 
 words-requires : tie.Need-words-requires
 words-requires c κs =
-    rw (c .before .index .ensures)
-    (subst (λ (x : Input). 32 * specialReach x ≤ length (now (c .before .before .before .before .before .before .before .before .args .specials))) (c .before .before .before .x2 .given .1) (c .before .before .before .before .before .before .before .before .pre .1 .1))
+    let p = c .before .before .before .before .before .before .before .before .pre in
+    rw (c .before .index .ensures) (rw (c .before .before .before .x2 .given .1) at (p .1 .1))
 
 returns : tie.Need-returns
 unfolding tab valueOf
 returns c =
-    let a = c .before .before .before .before .before .args in
-    input-made (now (a .registers)) (now (a .uniforms)) (now (a .specials)) (now (a .row)) (a .x) Input.Nothing (c .enum-told .given .1)
-    (row-made (λ (t : ℕ). 0) 0 (now (a .row)) (c .before .before .before .before .before .pre .0) (λ t. omega arith))
+    let s = c .before .before .before .before .before in
+    rw (c .enum-told .given .1) (row-made (λ (t : ℕ). 0) 0 (now (s .args .row)) (s .pre .0) (λ t. omega arith))
 
 returns-2 : tie.Need-returns-2
 unfolding valueOf
-returns-2 c =
-    let a = c .before .before .before .before .before .before .before .before .args in
-    input-made (now (a .registers)) (now (a .uniforms)) (now (a .specials)) (c .source .last .1 .1 .1 .0) (a .x)
-    (Input.Operand (c .before .before .before .x .given .0 .0)) (c .before .before .before .x .given .1) (c .source .ensures)
+returns-2 c = rw (c .before .before .before .x .given .1) (c .source .ensures)
 
 returns-3 : tie.Need-returns-3
 unfolding valueOf
 returns-3 c =
-    let a = c .before .before .before .before .before .before .before .before .before .args in
-    let k = c .before .before .before .before .x2 .given .0 .0 in
-    input-made (now (a .registers)) (now (a .uniforms)) (now (a .specials)) (c .words .last .1 .1 .0) (a .x) (Input.Special k)
-    (c .before .before .before .before .x2 .given .1)
-    (row-made (wordAt (now (a .specials)) k) 32 (c .words .last .1 .1 .0)
-    (c .words .ensures ∙ ap (λ (r : ℕ). tab 32 (wordAt (now (a .specials)) r)) (c .before .before .index .ensures))
-    (λ t. c .before .before .before .before .before .before .shared-slice-known3 .given (32 * k + t) .fits))
+    let specials = now (c .before .before .before .before .before .before .before .before .before .args .specials) in
+    let x = c .before .before .before .before .x2 .given in
+    rw (x .1)
+    (row-made (wordAt specials (x .0 .0)) 32 (c .words .last .1 .1 .0)
+    (c .words .ensures ∙ ap (λ (r : ℕ). tab 32 (wordAt specials r)) (c .before .before .index .ensures))
+    (λ t. c .before .before .before .before .before .before .shared-slice-known3 .given (32 * x .0 .0 + t) .fits))
 
 pub input-spec : {M : Type 1} → statement M
 input-spec =

@@ -66,11 +66,12 @@ loop-again c =
     let l = c .before .before .before .before .loop in
     let a = c .before .before .before .before .before .before .args in
     let file = now (a .file) in
-    let second : 32 * a .r + 32 + l .t ≡ 32 * (a .r + 1) + l .t = omega arith in
-    (omega arith,
-    row-next (pairAt file (a .r)) (l .t) (l .out) (replicate 32 0) (l .inv .1) refl (c .pair .result)
-    (c .before .before .before .loop-test .taken)
-    (c .pair .ensures ∙ ap (λ (i : ℕ). pairOf (getD file (32 * a .r + l .t) 0) (getD file i 0)) second))
+    let second : 32 * a .r + 32 + l .t ≡ 32 * (a .r + 1) + l .t = omega arith in (
+      omega arith,
+      row-next (pairAt file (a .r)) (l .t) (l .out) (replicate 32 0) (l .inv .1) refl (c .pair .result)
+          (c .before .before .before .loop-test .taken)
+          (c .pair .ensures ∙ ap (λ (i : ℕ). pairOf (getD file (32 * a .r + l .t) 0) (getD file i 0)) second),
+    )
 
 returns : tie.Need-returns Inv-loop μ-loop
 returns c =

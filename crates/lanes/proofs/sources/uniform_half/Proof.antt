@@ -1,6 +1,6 @@
 -- A half of a uniform, by its place.
-use Prim.Native.Nat.{ℕ, _/_, _%_, _^_}
-use mathlib.Core.Path.{_∙_, ap₂}
+use Prim.Native.Nat.{_/_, _%_, _^_}
+use mathlib.Core.Path.{_∙_}
 use borrow.Author.Needs.{needs}
 use denote.Ref.{now}
 use lib.Dec.{eqb}
@@ -26,8 +26,9 @@ returns : tie.Need-returns
 returns c =
     let a = c .before .before .before .before .args in
     c .part .ensures
-    ∙ ap₂ (λ (word place : ℕ). word / 2 ^ place % 2 ^ 16) (c .before .before .uniform .ensures) (c .before .place .ensures)
-    ∙ half-part (a .h) (getD (now (a .uniforms)) (a .h / 2) 0) (c .before .before .before .shared-slice-known .given (a .h / 2) .fits)
+    ∙ (λ i. c .before .before .uniform .ensures i / 2 ^ c .before .place .ensures i % 2 ^ 16)
+    ∙ half-part (a .h) (getD (now (a .uniforms)) (a .h / 2) 0)
+    (c .before .before .before .shared-slice-known .given (a .h / 2) .fits)
 
 pub uniform-half-spec : {M : Type 1} → statement M
 uniform-half-spec =

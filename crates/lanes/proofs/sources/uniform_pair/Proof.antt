@@ -20,7 +20,8 @@ pair-requires c κs = search needs
 
 returns : tie.Need-returns
 returns c =
-    rw (c .pair .ensures, c .before .uniform2 .ensures, c .before .before .uniform .ensures, c .before .before .before .index .ensures)
+    let r = c .before .before .before .index .ensures in
+    rw (c .pair .ensures, c .before .uniform2 .ensures, c .before .before .uniform .ensures, r)
 
 pub uniform-pair-spec : {M : Type 1} → statement M
 uniform-pair-spec =

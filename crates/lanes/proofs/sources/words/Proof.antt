@@ -51,10 +51,11 @@ loop-less c = omega arith
 loop-again : tie.Need-loop-again Inv-loop μ-loop
 loop-again c =
     let l = c .before .before .before .loop in
-    let a = c .before .before .before .before .before .args in
-    (omega arith,
-    row-next (wordAt (now (a .file)) (a .r)) (l .t) (l .out) (replicate 32 0) (l .inv .1) refl (c .wide .result)
-    (c .before .before .loop-test .taken) (c .wide .ensures))
+    let a = c .before .before .before .before .before .args in (
+      omega arith,
+      row-next (wordAt (now (a .file)) (a .r)) (l .t) (l .out) (replicate 32 0) (l .inv .1) refl (c .wide .result)
+          (c .before .before .loop-test .taken) (c .wide .ensures),
+    )
 
 returns : tie.Need-returns Inv-loop μ-loop
 returns c =

@@ -1,7 +1,7 @@
 -- By the last bit of h.
 use borrow.Author.Tests.{eq-eqb, ne-eqb}
-use Rattle.lanes.proofs.half.other.Statement.{statement}
-use Rattle.lanes.proofs.half.other.Tie as tie
+use Rattle.lanes.proofs.register.other.Statement.{statement}
+use Rattle.lanes.proofs.register.other.Tie as tie
 
 returns : tie.Need-returns
 returns c = rw (eq-eqb _ _ (c .if1 .taken))

@@ -1,0 +1,40 @@
+use borrow.Author.Needs.{needs}
+use native.Mathlib.Omega.{arith}
+use Rattle.going.proofs.Jumps.{forward, back, too-far-back}
+use Rattle.going.proofs.jump.landing.Statement.{statement}
+use Rattle.going.proofs.jump.landing.Tie as tie
+
+add-at : tie.Need-add-at
+add-at c = search needs
+
+at-requires : tie.Need-at-requires
+at-requires c κs = search needs
+
+returns : tie.Need-returns
+returns c =
+    let a = c .before .before .args in
+    rw (forward (a .address) (a .off) (omega (arith, c .before .if1 .taken)))
+    (c .at .ensures)
+
+sub-back : tie.Need-sub-back
+sub-back c = search needs
+
+returns-2 : tie.Need-returns-2
+returns-2 c =
+    let a = c .before .before .args in
+    let k = c .before .before .fits .off .fits in
+    rw (too-far-back (a .length) (a .address) (a .off) (omega (arith, c .before .if1 .left)) k (c .if2 .taken))
+
+at-requires-2 : tie.Need-at-requires-2
+at-requires-2 c κs = search needs
+
+returns-3 : tie.Need-returns-3
+returns-3 c =
+    let a = c .before .before .before .args in
+    let k = c .before .before .before .fits .off .fits in
+    rw (back (a .address) (a .off) (omega (arith, c .before .before .if1 .left)) k (c .before .if2 .left))
+    (c .at2 .ensures)
+
+pub landing-spec : {M : Type 1} → statement M
+landing-spec =
+    tie.close (tie.spec add-at at-requires returns sub-back returns-2 at-requires-2 returns-3)
