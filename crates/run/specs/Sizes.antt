@@ -1,5 +1,5 @@
--- The sizes of what is lent, by lengths alone.
-use Prim.Native.Nat.{ℕ, _*_, _%_}
+-- The sizes of what is lent, by lengths alone: what is lent, and then what is asked of it.
+use Prim.Native.Nat.{ℕ, _*_, _/_, _%_}
 use mathlib.Core.Bool.{Bool}
 use lib.Dec.{eqb, leb}
 use Rattle.machine.specs.Meaning.{both}
@@ -8,14 +8,8 @@ use Rattle.machine.specs.Run.{codeLimit, budgetLimit}
 abbrev pub columnsOf : ℕ → ℕ → ℕ → Bool
 columnsOf fewest most words = both (eqb (words % 32) 0) (both (leb (32 * fewest) words) (leb words (32 * most)))
 
-unfoldable pub arrangedBy : ℕ → ℕ → ℕ → ℕ → ℕ → ℕ → ℕ → Bool
+abbrev pub arrangedBy : ℕ → ℕ → ℕ → ℕ → ℕ → ℕ → ℕ → Bool
 arrangedBy code registers uniforms specials start budget records =
-    both (leb code codeLimit)
-    (both (columnsOf 1 128 registers)
-    (both (eqb uniforms 256)
-    (both (columnsOf 0 256 specials)
+    both (both (leb code codeLimit) (both (columnsOf 1 128 registers) (both (eqb uniforms 256) (columnsOf 0 256 specials))))
     (both (leb 1 budget)
-    (both (leb budget budgetLimit)
-    (both (eqb (start % 2) 0)
-    (both (leb start code)
-    (leb (16 * budget) records))))))))
+      (both (leb budget budgetLimit) (both (eqb (start % 2) 0) (both (leb start code) (leb budget (records / 16))))))

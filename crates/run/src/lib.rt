@@ -1,5 +1,4 @@
 // A run: the 32 threads step in lockstep until the code is at its end, the budget is used up, or an instruction is refused.
-ghost use mathlib.Core.Path.{_≡_};
 ghost use Rattle.run.specs.Ran.{Ran, callOf};
 
 mod sizes;
