@@ -1,0 +1,188 @@
+//! The kernels that are timed, and what is lent to them. Each is a loop that never ends by itself, so that a run makes as many
+//! steps as its budget has.
+
+use crate::assemble::{Asr, Cc, Code, Field, Icmp, Op, Op::*, Scan, Sum, Term};
+
+pub const REGISTERS: usize = 128;
+pub const SPECIALS: usize = 8;
+pub const BUDGET: usize = 4096;
+
+/// A kernel and the mask that it starts with.
+pub struct Kernel {
+    pub name: &'static str,
+    pub code: Vec<u8>,
+    pub mask: u32,
+}
+
+/// What a run is lent besides the code.
+#[derive(Clone)]
+pub struct Lent {
+    pub registers: Vec<u32>,
+    pub uniforms: Vec<u32>,
+    pub specials: Vec<u32>,
+    pub records: Vec<u8>,
+}
+
+pub fn all() -> Vec<Kernel> {
+    vec![
+        looped("arithmetic, 16 bits", u32::MAX, arithmetic16),
+        looped("arithmetic, 32 bits", u32::MAX, arithmetic32),
+        looped("arithmetic, 64 bits", u32::MAX, arithmetic64),
+        looped("arithmetic, half active", 0x5A5A_3C96, arithmetic32),
+        looped("saturating sums", u32::MAX, saturating),
+        looped("bitfields", u32::MAX, bitfields),
+        looped("masks and jumps", u32::MAX, masks),
+        looped("moves and scans", u32::MAX, moves),
+    ]
+}
+
+/// Fixed pseudo-random contents. r0 is 0, as the mask stack wants it, and r1 to r3 are small.
+pub fn lent() -> Lent {
+    let mut state = 0x2545_F491_4F6C_DD1Du64;
+    let mut word = || {
+        state ^= state << 13;
+        state ^= state >> 7;
+        state ^= state << 17;
+        (state >> 32) as u32
+    };
+    let mut registers: Vec<u32> = (0..32 * REGISTERS).map(|_| word()).collect();
+    registers[..32].fill(0);
+    registers[32..128].iter_mut().for_each(|value| *value %= 200);
+    let uniforms = (0..256).map(|_| word()).collect();
+    let specials = (0..32 * SPECIALS).map(|_| word()).collect();
+    Lent { registers, uniforms, specials, records: vec![0; 16 * BUDGET] }
+}
+
+/// The body, and a jump back to its start.
+fn looped(name: &'static str, mask: u32, body: fn(&mut Code)) -> Kernel {
+    let mut code = Code::default();
+    body(&mut code);
+    code.jmp_exec_any(0);
+    Kernel { name, code: code.0, mask }
+}
+
+fn unsigned(op: Op) -> Term {
+    Term(op, false)
+}
+
+fn signed(op: Op) -> Term {
+    Term(op, true)
+}
+
+fn shifted(shift: u64) -> Sum {
+    Sum { shift, ..Sum::default() }
+}
+
+const MINUS: Sum = Sum { saturate: false, negate: true, shift: 0 };
+const PLUS: Sum = Sum { saturate: false, negate: false, shift: 0 };
+const XOR: u64 = 0b0110;
+const AND: u64 = 0b1000;
+const OR: u64 = 0b1110;
+
+fn arithmetic16(code: &mut Code) {
+    for r in 4..8 {
+        code.iadd(Lo(r), unsigned(Lo(r)), unsigned(Hi(r + 40)), PLUS);
+        code.imadd(Hi(r), unsigned(Lo(r)), signed(Lo(r + 8)), unsigned(Hi(r)), shifted(1));
+        code.iadd(Lo(r + 8), unsigned(Hi(r)), signed(ULo(r)), MINUS);
+        code.field(Field::Bfi, Lo(r + 16), [Lo(r), Hi(r + 8), Imm(5)], 7);
+        code.field(Field::Bfeil, Hi(r + 16), [Hi(r), Lo(r + 40), Lo(1)], 9);
+        code.asr(Asr::Low, Lo(r + 24), Hi(r), Imm(3));
+        code.bitop(Lo(r), Lo(r), Hi(r + 24), XOR);
+        code.imadd(Lo(r + 32), signed(Lo(r)), unsigned(Imm(77)), unsigned(UHi(r + 130)), PLUS);
+        code.field(Field::Extr, Hi(r + 8), [Lo(r + 16), Hi(r + 24), Imm(6)], 0);
+        code.bitop(Hi(r), Hi(r), Lo(r + 32), OR);
+    }
+}
+
+fn arithmetic32(code: &mut Code) {
+    for r in 4..8 {
+        code.iadd(Reg(r), unsigned(Reg(r)), unsigned(Reg(r + 40)), PLUS);
+        code.imadd(Reg(r + 8), unsigned(Reg(r)), signed(Reg(r + 48)), unsigned(Reg(r)), shifted(2));
+        code.iadd(Reg(r + 16), unsigned(Reg(r + 8)), signed(U(r)), MINUS);
+        code.field(Field::Bfi, Reg(r + 24), [Reg(r), Reg(r + 8), Imm(13)], 11);
+        code.field(Field::Bfeil, Reg(r + 32), [Reg(r + 8), Reg(r), Lo(1)], 19);
+        code.asr(Asr::Low, Reg(r + 56), Reg(r + 16), Imm(7));
+        code.bitop(Reg(r), Reg(r), Reg(r + 56), XOR);
+        code.imadd(Reg(r + 64), signed(Reg(r)), unsigned(Imm(77)), unsigned(U(r + 130)), PLUS);
+        code.field(Field::Extr, Reg(r + 72), [Reg(r + 24), Reg(r + 32), Imm(21)], 0);
+        code.bitop(Reg(r), Reg(r + 72), Reg(r + 64), OR);
+    }
+}
+
+fn arithmetic64(code: &mut Code) {
+    for r in [4, 6, 8, 10] {
+        code.iadd(Pair(r), unsigned(Pair(r)), unsigned(Pair(r + 40)), PLUS);
+        code.imadd(Pair(r + 10), unsigned(Reg(r)), signed(Reg(r + 48)), unsigned(Pair(r)), shifted(3));
+        code.iadd(Pair(r + 20), unsigned(Pair(r + 10)), signed(UPair(r)), MINUS);
+        code.imadd(Pair(r + 30), signed(Reg(r + 1)), unsigned(Reg(r)), signed(Pair(r + 10)), MINUS);
+        code.field(Field::Shlhi, Reg(r + 60), [Reg(r), Reg(r + 1), Imm(9)], 0);
+        code.field(Field::Shrhi, Reg(r + 61), [Reg(r + 11), Reg(r + 10), Lo(2)], 0);
+        code.asr(Asr::High, Reg(r + 71), Reg(r + 21), Imm(37));
+        code.bitop(Reg(r), Reg(r), Reg(r + 71), XOR);
+        code.iadd(Pair(r), signed(Reg(r + 60)), unsigned(Pair(r + 30)), shifted(4));
+        code.bitop(Reg(r + 1), Reg(r + 61), Reg(r + 1), OR);
+    }
+}
+
+fn saturating(code: &mut Code) {
+    let plus = Sum { saturate: true, ..PLUS };
+    let minus = Sum { saturate: true, ..MINUS };
+    for r in 4..8 {
+        code.iadd(Reg(r), unsigned(Reg(r)), unsigned(Reg(r + 40)), minus);
+        code.imadd(Reg(r + 8), signed(Reg(r)), signed(Reg(r + 48)), unsigned(Reg(r + 40)), plus);
+        code.iadd(Lo(r + 16), signed(Reg(r + 8)), signed(Hi(r + 40)), plus);
+        code.imadd(Hi(r + 16), unsigned(Lo(r)), unsigned(Imm(3)), unsigned(ULo(r)), minus);
+        code.imadd(Reg(r), unsigned(Reg(r + 16)), unsigned(Lo(3)), unsigned(Reg(r + 8)), minus);
+    }
+}
+
+fn bitfields(code: &mut Code) {
+    let all = [Field::Bfi, Field::Bfeil, Field::Extr, Field::Shlhi, Field::Shrhi];
+    for (r, field) in (4..).zip(all) {
+        code.field(field, Reg(r), [Reg(r), Reg(r + 40), Lo(1)], 0);
+        code.field(field, Reg(r + 8), [Reg(r), Reg(r + 41), Reg(2)], 12);
+        code.field(field, Hi(r + 16), [Lo(r), Reg(r + 8), Imm(40)], 31);
+        code.asr(Asr::Low, Reg(r + 24), Reg(r + 16), Lo(1));
+        code.asr(Asr::High, Reg(r + 32), Reg(r + 24), Reg(3));
+    }
+}
+
+/// Branches and loops: an if with an else, an if that is jumped over where no thread takes it, and a loop that each thread
+/// leaves after its own number of turns.
+fn masks(code: &mut Code) {
+    code.imadd(Reg(4), unsigned(Reg(4)), unsigned(Imm(109)), unsigned(Imm(57)), PLUS);
+    code.icmp(Icmp::If, 1, Reg(4), Cc::Less, Reg(44));
+    code.iadd(Reg(5), unsigned(Reg(5)), unsigned(Imm(1)), PLUS);
+    code.icmp(Icmp::If, 1, Reg(4), Cc::SignedGreater, U(9));
+    code.iadd(Reg(6), unsigned(Reg(6)), unsigned(Imm(1)), PLUS);
+    code.pop_exec(1);
+    code.icmp(Icmp::Else, 1, Imm(0), Cc::Equal, Imm(0));
+    code.iadd(Reg(7), unsigned(Reg(7)), unsigned(Imm(1)), PLUS);
+    code.pop_exec(1);
+    code.icmp(Icmp::If, 1, Lo(5), Cc::Equal, Imm(200));
+    let over = code.jmp_exec_none();
+    code.mov16(Lo(5), 0);
+    code.land(over);
+    code.pop_exec(1);
+    code.field(Field::Bfeil, Reg(8), [Imm(0), Reg(4), Imm(13)], 2);
+    let again = code.here();
+    code.iadd(Reg(8), unsigned(Reg(8)), unsigned(Imm(1)), MINUS);
+    code.icmp(Icmp::While, 1, Reg(8), Cc::SignedGreater, Imm(0));
+    code.jmp_exec_any(again);
+    code.pop_exec(1);
+    code.icmp(Icmp::If, 1, Hi(4), Cc::Greater, UHi(12));
+    code.pop_exec(1);
+}
+
+fn moves(code: &mut Code) {
+    for r in 4..12 {
+        code.mov16(Lo(r), 0x1234 + r);
+        code.mov32(Reg(r + 8), 0x89AB_CDEF ^ r);
+        code.get_sr(Reg(r + 16), r % 8);
+        code.get_sr(Hi(r), (r + 3) % 8);
+        code.scan(Scan::Bitrev, Reg(r + 24), Reg(r));
+        code.scan(Scan::Popcount, Lo(r + 32), Reg(r + 24));
+        code.scan(Scan::Ffs, Hi(r + 32), Reg(r + 16));
+        code.bitop(Reg(r + 40), Reg(r + 24), U(r), AND);
+    }
+}

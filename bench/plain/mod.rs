@@ -1,0 +1,23 @@
+//! The plain Rust program: runs of G13 kernels as 01 defines them, written from 01 and document 002 and from nothing else of
+//! this repository. The proved program is timed against it, and the outside vectors are run through it.
+//!
+//! `find` and `decode` read an instruction, `operand` says what its operands are, `lanes` reads and writes the 32 threads of an
+//! operand, `sums`, `bits` and `masks` have the arithmetic, `step` does one instruction and `run` a whole run.
+
+mod bits;
+pub mod decode;
+mod find;
+mod lanes;
+mod masks;
+pub mod operand;
+mod run;
+mod step;
+mod sums;
+
+pub use run::{run, Answer, Ending};
+
+/// The threads that step together.
+pub const THREADS: usize = 32;
+
+/// A refusal's number in 01.
+pub type Refusal = u8;

@@ -1,0 +1,141 @@
+#!/usr/bin/env python3
+"""Writes the vectors beside this file: runs of short kernels and what they must leave, computed by g13.py.
+
+    make.py                  write every *.txt again
+    make.py --check          say whether the *.txt are what would be written; the last line is `N passed, M failed`
+    make.py --random S N     N vectors from random kernels with the seed S, to standard output
+
+The form. A file is text, one vector after the other. Every line begins with a key of four letters and a blank. A number is eight
+lower-case hexadecimal digits, numbers stand one blank apart. Code and records are bytes, two digits each, with nothing between.
+
+    name NAME                             letters, digits, - and _, at most 60
+    size CODE REGISTERS UNIFORMS SPECIALS RECORDS
+                                          the lent lengths: code and records in bytes, the others in words
+    fill REGISTERS UNIFORMS SPECIALS      word j, from 0, is (j + 1) times this number, modulo two to the 32; the code's bytes
+                                          are 00 and the bytes of the room for records a5
+    code AT BYTES                         bytes of the code from AT on, at most 32 in a line; a line of zeros is left out
+    regs AT WORDS                         words of the registers from AT on, at most 32 in a line, in place of the filled ones
+    unif AT WORDS                         the same for the uniforms
+    spec AT WORDS                         the same for the special registers
+    call START MASK BUDGET                the run; what follows is what it must leave
+    ends HOW STEPS ADDRESS MASK           HOW is `finished`, `spent` or `refused N`, with N one digit
+    regs AT WORDS                         each 32 words from a multiple of 32 on of which some differ from before the run
+    recs AT BYTES                         each 16 bytes of the room from a multiple of 16 on, the last may be fewer, that are not
+                                          all a5
+    (an empty line)
+
+The lines stand in this order; there may be none or several of code, regs, unif, spec and recs. A file's first line begins with #
+and says what is in it. No line is longer than 301 characters. No length is above 2020 (code), 1020 (registers), 101 (uniforms),
+2020 (special registers) and 10010 (records), all hexadecimal.
+
+A program that runs vectors prints every line up to `call` as it stands, then what its own run left, then an empty line, and passes
+over the lines up to the next empty one and that one. Its output is the file itself exactly if every run left what it must; that
+holds of several files one after the other too.
+"""
+import pathlib
+import random
+import sys
+
+sys.dont_write_bytecode = True
+
+import data
+import g13
+import masks
+import randoms
+import refusals
+
+HERE = pathlib.Path(__file__).resolve().parent
+WORD = 1 << 32
+
+
+def words_of(length, fill, given):
+    words = [(j + 1) * fill % WORD for j in range(length)]
+    for at, values in given.items():
+        words[at : at + len(values)] = values
+    assert len(words) == length
+    return words
+
+
+def lines_of(key, at, values, most, form):
+    """Lines of at most `most` values each."""
+    return [f"{key} {at + k:08x} {form(values[k : k + most])}" for k in range(0, len(values), most)]
+
+
+def hex_words(values):
+    return " ".join(f"{value:08x}" for value in values)
+
+
+def asked(v):
+    """The lines of a vector up to `call`."""
+    sizes = (len(v.code), v.registers, v.uniforms, v.specials, v.room)
+    lines = [f"name {v.name}", f"size {hex_words(sizes)}", f"fill {hex_words(v.fill)}"]
+    lines += [line for line in lines_of("code", 0, v.code, 32, bytes.hex) if line[14:].strip("0")]
+    for key, given in (("regs", v.regs), ("unif", v.unif), ("spec", v.spec)):
+        for at in sorted(given):
+            lines += lines_of(key, at, given[at], 32, hex_words)
+    return lines + [f"call {hex_words((v.start, v.mask, v.budget))}"]
+
+
+def left(v):
+    """The lines of a vector after `call`."""
+    registers = words_of(v.registers, v.fill[0], v.regs)
+    before, records = list(registers), bytearray(b"\xa5" * v.room)
+    lent = words_of(v.uniforms, v.fill[1], v.unif), words_of(v.specials, v.fill[2], v.spec)
+    ending, *numbers = g13.run(v.code, registers, *lent, v.start, v.mask, v.budget, records)
+    lines = [f"ends {ending} {hex_words(numbers)}"]
+    for at in range(0, len(registers), 32):
+        if registers[at : at + 32] != before[at : at + 32]:
+            lines += lines_of("regs", at, registers[at : at + 32], 32, hex_words)
+    for at in range(0, len(records), 16):
+        if any(byte != 0xA5 for byte in records[at : at + 16]):
+            lines += lines_of("recs", at, bytes(records[at : at + 16]), 16, bytes.hex)
+    v.check(ending, numbers, registers, bytes(records))
+    return lines
+
+
+def text_of(vectors):
+    return "".join("\n".join(asked(v) + left(v)) + "\n\n" for v in vectors)
+
+
+def files():
+    """(file name, text) of every file."""
+    names = set()
+    for name, what, made in data.files() + masks.files() + refusals.files():
+        random.seed(name)
+        vectors = list(made())
+        for v in vectors:
+            assert v.name not in names and len(v.name) <= 60, v.name
+            names.add(v.name)
+        yield f"{name}.txt", f"# {what}; make.py has the form\n" + text_of(vectors)
+
+
+def check():
+    passed = failed = 0
+    wanted = dict(files())
+    for path in sorted(set(wanted) | {path.name for path in HERE.glob("*.txt")}):
+        kept = HERE / path
+        if kept.exists() and kept.read_text() == wanted.get(path):
+            passed += 1
+        else:
+            failed += 1
+            print(f"FAIL  {path} is not what make.py writes")
+    print(f"{passed} passed, {failed} failed")
+    return failed == 0
+
+
+def main(arguments):
+    if arguments == ["--check"]:
+        sys.exit(0 if check() else 1)
+    elif len(arguments) == 3 and arguments[0] == "--random":
+        random.seed(int(arguments[1]))
+        for k in range(int(arguments[2])):
+            print(text_of([randoms.kernel(f"random-{arguments[1]}-{k}")]), end="")
+    elif not arguments:
+        for name, text in files():
+            (HERE / name).write_text(text)
+    else:
+        sys.exit(__doc__)
+
+
+if __name__ == "__main__":
+    main(sys.argv[1:])
