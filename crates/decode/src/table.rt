@@ -5,11 +5,13 @@ ghost use Prim.Native.Nat.{_<_};
 ghost use lib.ListN.{getD};
 ghost use Rattle.bits.specs.Word.{ones};
 ghost use Rattle.isa.specs.Find.{forms};
-ghost use Rattle.decode.specs.First.{agrees, noForm};
+ghost use lib.Bits.{bitAnd};
+ghost use lib.Dec.{eqb};
+ghost use Rattle.decode.specs.First.{noForm};
 
 pub const FORMS: usize = 24;
 
-const MASKS: [u64; 24] = [
+pub const MASKS: [u64; 24] = [
     0x817f, 0x817f, // mov16: L = 0, L = 1
     0x817f, 0x817f, // mov32: L = 0, L = 1
     0x807f, // get_sr
@@ -23,7 +25,7 @@ const MASKS: [u64; 24] = [
     0x30c00c00067f, 0x30c00c00067f, 0x30c00c00067f, // if_icmp, while_icmp, else_icmp
 ];
 
-const VALUES: [u64; 24] = [
+pub const VALUES: [u64; 24] = [
     0x62, 0x8062, // mov16: L = 0, L = 1
     0x162, 0x8162, // mov32: L = 0, L = 1
     0x72, // get_sr
@@ -99,11 +101,9 @@ pub fn place_of(i: usize) -> usize
     PLACES[i]
 }
 
-// The fixed bits of form i that are lent agree with the word w, of which n bytes are lent.
-pub fn agree(i: usize, w: u64, n: usize) -> bool
-    requires { ⌜ (i < 24) × (n < 9) ⌝ }
-    ensures { λ r. ⌜ r ≡ agrees (getD forms i noForm) w n ⌝ }
+// The fixed bits that are lent agree with the word w; k has ones at the bits that are lent.
+pub fn agree(mask: u64, value: u64, w: u64, k: u64) -> bool
+    ensures { λ r. ⌜ r ≡ eqb (bitAnd w mask) (bitAnd value k) ⌝ }
 {
-    let k = ones_of(n);
-    (w & MASKS[i]) == (VALUES[i] & k)
+    (w & mask) == (value & k)
 }
