@@ -1,8 +1,16 @@
-//! Runs outside vectors through the plain Rust program: the files that are named, or standard input. tests/vectors/make.py has
-//! their form. Prints each difference, and last `N passed, M failed`.
+//! Runs outside vectors through the plain Rust program or, with `--cfg linked`, through the proved one: the files that are named, or
+//! standard input. tests/vectors/make.py has their form. Prints each difference, and last `N passed, M failed`.
 
+#[cfg_attr(linked, allow(unused_imports))]
 #[allow(dead_code)]
 mod plain;
+#[cfg(linked)]
+mod proved;
+
+#[cfg(not(linked))]
+use plain as tried;
+#[cfg(linked)]
+use proved as tried;
 
 use plain::{Answer, Ending};
 use std::fmt::Write;
@@ -95,7 +103,7 @@ impl Lent {
     fn run(&mut self, call: &[u32]) -> String {
         let before = self.registers.clone();
         let (start, mask, budget) = (call[0] as usize, call[1], call[2] as usize);
-        let answer = plain::run(
+        let answer = tried::run(
             &self.code,
             &mut self.registers,
             &self.uniforms,
