@@ -1,7 +1,7 @@
 -- What each instruction means for one thread: the pseudocode of document 002 after its operand lines, in document order. a, b and c
 -- are the values that the thread reads, without sign; the result is an unbounded integer. In a mask instruction v is the thread's
 -- r0l. Where the page as printed has two readings, or does not end, docs/DECISIONS.md says which is followed.
-use Prim.Native.Nat.{ℕ, zero, suc, _+_, _*_, _-_, _/_, _%_, _^_, max, min}
+use Prim.Native.Nat.{ℕ, zero, suc, _+_, _-_, _/_, _%_, _^_, min}
 use mathlib.Core.Bool.{Bool, true, false, cond, not}
 use lib.Dec.{eqb, leb, ltb}
 use lib.Bits.{bitAnd, bitOr}
@@ -10,6 +10,9 @@ use lib.Signed.{ltZ}
 use Rattle.isa.specs.declared.operand.Destination.{Destination}
 use Rattle.isa.specs.declared.operand.Dst.{Dst}
 use Rattle.isa.specs.declared.operand.Src.{Src}
+use Rattle.isa.specs.declared.operand.Unary.{Unary}
+use Rattle.isa.specs.declared.operand.Binary.{Binary}
+use Rattle.isa.specs.declared.operand.Ternary.{Ternary}
 use Rattle.isa.specs.declared.instruction.Instruction.{Instruction}
 use Rattle.isa.specs.declared.instruction.Compare.{Compare}
 use Rattle.machine.specs.Integer.{_<<_, _>>_, ~_, _&_, _∣_, signExtend, saturateInteger}
@@ -217,50 +220,65 @@ pub data Meaning : Type 0 where
   -- if any(exec_mask), or if not any(exec_mask): next_pc = pc + offset
   jumps : Bool → ℤ → Meaning
 
--- the instruction's own operands
-abbrev pub three : Dst → Input → Input → Input → (ℕ → ℕ → ℕ → ℤ) → Meaning
-three d a b c result = writes (d .destination) a b c result
+-- ---- the operands of an instruction
 
 abbrev pub input : Src → Input
 input a = Input.Operand a
 
-abbrev pub size : Src → ℕ
-size a = sourceSize (a .source)
-
-abbrev pub conditionOf : Compare → Condition
-conditionOf o = record { cc = o .cc; ccn = o .ccn; sizeA = size (o .operands .a); sizeB = size (o .operands .b) }
-
 abbrev pub none : Input
 none = Input.Nothing
 
+abbrev pub size : Src → ℕ
+size a = sourceSize (a .source)
+
+abbrev pub no-sources : Dst → (ℕ → ℕ → ℕ → ℤ) → Meaning
+no-sources d result = writes (d .destination) none none none result
+
+abbrev pub one-source : Unary → (ℕ → ℕ → ℕ → ℤ) → Meaning
+one-source o result = writes (o .d .destination) (input (o .a)) none none result
+
+abbrev pub two-sources : Binary → (ℕ → ℕ → ℕ → ℤ) → Meaning
+two-sources o result = writes (o .d .destination) (input (o .a)) (input (o .b)) none result
+
+abbrev pub three-sources : Ternary → (ℕ → ℕ → ℕ → ℤ) → Meaning
+three-sources o result = writes (o .d .destination) (input (o .a)) (input (o .b)) (input (o .c)) result
+
+abbrev pub comparison : Compare → (Condition → ℕ → ℕ → ℕ → ℕ → ℤ) → Meaning
+comparison o result =
+    let a = o .operands .a in
+    let b = o .operands .b in
+    masks (input a) (input b) (result (record { cc = o .cc; ccn = o .ccn; sizeA = size a; sizeB = size b }) (o .n))
+
+-- ---- the 22 instructions, in document order
+
 unfoldable pub meaningOf : Instruction → Meaning
-meaningOf (Instruction.Mov16 d imm16 l k) = three d none none none (mov imm16)
-meaningOf (Instruction.Mov32 d imm32 l k) = three d none none none (mov imm32)
-meaningOf (Instruction.GetSr d sr k) = three d (Input.Special sr) none none getSr
+meaningOf (Instruction.Mov16 d imm16 l k) = no-sources d (mov imm16)
+meaningOf (Instruction.Mov32 d imm32 l k) = no-sources d (mov imm32)
+meaningOf (Instruction.GetSr d sr k) = writes (d .destination) (Input.Special sr) none none getSr
 meaningOf (Instruction.Iadd o S N As Bs shift k) =
-    three (o .d) (input (o .a)) (input (o .b)) none (iadd record {
+    two-sources o (iadd record {
       S = S; N = N; As = As; Bs = Bs; Cs = 0; shift = shift;
       sizeA = size (o .a); sizeB = size (o .b); sizeC = 0; sizeD = destinationSize (o .d .destination);
     })
 meaningOf (Instruction.Imadd o S N As Bs Cs shift k) =
-    three (o .d) (input (o .a)) (input (o .b)) (input (o .c)) (imadd record {
+    three-sources o (imadd record {
       S = S; N = N; As = As; Bs = Bs; Cs = Cs; shift = shift;
       sizeA = size (o .a); sizeB = size (o .b); sizeC = size (o .c); sizeD = destinationSize (o .d .destination);
     })
-meaningOf (Instruction.Bfi o) = three (o .operands .d) (input (o .operands .a)) (input (o .operands .b)) (input (o .operands .c)) (bfi (o .m))
-meaningOf (Instruction.Bfeil o) = three (o .operands .d) (input (o .operands .a)) (input (o .operands .b)) (input (o .operands .c)) (bfeil (o .m))
-meaningOf (Instruction.Extr o) = three (o .operands .d) (input (o .operands .a)) (input (o .operands .b)) (input (o .operands .c)) (extr (o .m))
-meaningOf (Instruction.Shlhi o) = three (o .operands .d) (input (o .operands .a)) (input (o .operands .b)) (input (o .operands .c)) (shlhi (o .m))
-meaningOf (Instruction.Shrhi o) = three (o .operands .d) (input (o .operands .a)) (input (o .operands .b)) (input (o .operands .c)) (shrhi (o .m))
-meaningOf (Instruction.Asr o) = three (o .operands .d) (input (o .operands .a)) (input (o .operands .b)) none (asr (size (o .operands .a)))
-meaningOf (Instruction.Asrh o) = three (o .operands .d) (input (o .operands .a)) (input (o .operands .b)) none (asrh (size (o .operands .a)))
-meaningOf (Instruction.Bitop o tt0 tt1 tt2 tt3 k) = three (o .d) (input (o .a)) (input (o .b)) none (bitop tt0 tt1 tt2 tt3)
-meaningOf (Instruction.Bitrev o) = three (o .operands .d) (input (o .operands .a)) none none bitrev
-meaningOf (Instruction.Popcount o) = three (o .operands .d) (input (o .operands .a)) none none popcount
-meaningOf (Instruction.Ffs o) = three (o .operands .d) (input (o .operands .a)) none none ffs
+meaningOf (Instruction.Bfi o) = three-sources (o .operands) (bfi (o .m))
+meaningOf (Instruction.Bfeil o) = three-sources (o .operands) (bfeil (o .m))
+meaningOf (Instruction.Extr o) = three-sources (o .operands) (extr (o .m))
+meaningOf (Instruction.Shlhi o) = three-sources (o .operands) (shlhi (o .m))
+meaningOf (Instruction.Shrhi o) = three-sources (o .operands) (shrhi (o .m))
+meaningOf (Instruction.Asr o) = two-sources (o .operands) (asr (size (o .operands .a)))
+meaningOf (Instruction.Asrh o) = two-sources (o .operands) (asrh (size (o .operands .a)))
+meaningOf (Instruction.Bitop o tt0 tt1 tt2 tt3 k) = two-sources o (bitop tt0 tt1 tt2 tt3)
+meaningOf (Instruction.Bitrev o) = one-source (o .operands) bitrev
+meaningOf (Instruction.Popcount o) = one-source (o .operands) popcount
+meaningOf (Instruction.Ffs o) = one-source (o .operands) ffs
 meaningOf (Instruction.JmpExecAny off) = jumps true (signExtend off 32)
 meaningOf (Instruction.JmpExecNone off) = jumps false (signExtend off 32)
 meaningOf (Instruction.PopExec hint n k) = masks none none (popExec n)
-meaningOf (Instruction.IfIcmp o) = masks (input (o .operands .a)) (input (o .operands .b)) (ifIcmp (conditionOf o) (o .n))
-meaningOf (Instruction.WhileIcmp o) = masks (input (o .operands .a)) (input (o .operands .b)) (whileIcmp (conditionOf o) (o .n))
-meaningOf (Instruction.ElseIcmp o) = masks (input (o .operands .a)) (input (o .operands .b)) (elseIcmp (conditionOf o) (o .n))
+meaningOf (Instruction.IfIcmp o) = comparison o ifIcmp
+meaningOf (Instruction.WhileIcmp o) = comparison o whileIcmp
+meaningOf (Instruction.ElseIcmp o) = comparison o elseIcmp
