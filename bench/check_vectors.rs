@@ -1,16 +1,17 @@
 //! Runs outside vectors through the plain Rust program or, with `--cfg linked`, through the proved one: the files that are named, or
 //! standard input. tests/vectors/make.py has their form. Prints each difference, and last `N passed, M failed`.
 
+#[cfg(linked)]
+#[allow(dead_code)]
+mod exported;
 #[cfg_attr(linked, allow(unused_imports))]
 #[allow(dead_code)]
 mod plain;
-#[cfg(linked)]
-mod proved;
 
-#[cfg(not(linked))]
-use plain as tried;
 #[cfg(linked)]
-use proved as tried;
+use exported::run_words as tried;
+#[cfg(not(linked))]
+use plain::run as tried;
 
 use plain::{Answer, Ending};
 use std::fmt::Write;
@@ -103,7 +104,7 @@ impl Lent {
     fn run(&mut self, call: &[u32]) -> String {
         let before = self.registers.clone();
         let (start, mask, budget) = (call[0] as usize, call[1], call[2] as usize);
-        let answer = tried::run(
+        let answer = tried(
             &self.code,
             &mut self.registers,
             &self.uniforms,

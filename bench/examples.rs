@@ -1,9 +1,11 @@
-//! The bench examples of 01, run by the plain Rust program. `rustc --test` builds them; each is a test.
+//! The bench examples of 01, run by the plain Rust program, and those of the byte form (`forms`). `rustc --test` builds them; each is a
+//! test.
 
 #![cfg(test)]
 #![allow(dead_code)]
 
 mod assemble;
+mod forms;
 mod plain;
 
 use assemble::{Asr, Code, Op::*};

@@ -15,7 +15,6 @@ pub struct Kernel {
 }
 
 /// What a run is lent besides the code.
-#[derive(Clone)]
 pub struct Lent {
     pub registers: Vec<u32>,
     pub uniforms: Vec<u32>,
@@ -36,8 +35,9 @@ pub fn all() -> Vec<Kernel> {
     ]
 }
 
-/// Fixed pseudo-random contents. r0 is 0, as the mask stack wants it, and r1 to r3 are small.
-pub fn lent() -> Lent {
+/// Fixed pseudo-random contents for so many registers, at least 4, and special registers. r0 is 0, as the mask stack wants it, and r1 to
+/// r3 are small.
+pub fn lent(registers: usize, specials: usize) -> Lent {
     let mut state = 0x2545_F491_4F6C_DD1Du64;
     let mut word = || {
         state ^= state << 13;
@@ -45,11 +45,11 @@ pub fn lent() -> Lent {
         state ^= state << 17;
         (state >> 32) as u32
     };
-    let mut registers: Vec<u32> = (0..32 * REGISTERS).map(|_| word()).collect();
+    let mut registers: Vec<u32> = (0..32 * registers).map(|_| word()).collect();
     registers[..32].fill(0);
     registers[32..128].iter_mut().for_each(|value| *value %= 200);
     let uniforms = (0..256).map(|_| word()).collect();
-    let specials = (0..32 * SPECIALS).map(|_| word()).collect();
+    let specials = (0..32 * specials).map(|_| word()).collect();
     Lent { registers, uniforms, specials, records: vec![0; 16 * BUDGET] }
 }
 

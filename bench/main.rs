@@ -1,104 +1,110 @@
-//! Times runs of the benchmark kernels, by the plain Rust program and, where it is linked, by the proved program, and compares
-//! everything that the two leave.
+//! Times runs of the benchmark kernels, by the plain Rust program and by the proved program, and compares everything that the two
+//! leave. It also times calls of the proved program that make no step: what it costs that words cross as bytes.
 
 mod assemble;
+#[allow(dead_code)]
+mod exported;
 mod kernels;
+#[allow(dead_code)]
 mod plain;
-#[cfg(linked)]
-mod proved;
+mod programs;
 
-use kernels::{Kernel, Lent, BUDGET};
+use kernels::{lent, Kernel, BUDGET, REGISTERS, SPECIALS};
 use plain::{Answer, Ending};
-use std::time::{Duration, Instant};
+use programs::{Plain, Program, Proved};
 
 const ROUNDS: usize = 41;
 const WARM_UP: usize = 5;
-
-type Run = fn(&[u8], &mut [u32], &[u32], &[u32], usize, u32, usize, &mut [u8]) -> Answer;
-
-#[cfg(linked)]
-const PROVED: Option<Run> = Some(proved::run);
-#[cfg(not(linked))]
-const PROVED: Option<Run> = None;
+/// A call that makes no step is too short to be timed alone.
+const CALLS: usize = 100;
+/// Registers of the small state, which has no special registers.
+const FEW: usize = 8;
 
 fn main() {
+    let (large, small) = (no_step(REGISTERS, SPECIALS), no_step(FEW, 0));
     println!("steps per second, median of {ROUNDS} runs of {BUDGET} steps");
     println!("ratio = time of plain Rust / time of the proved program: 1.00 as fast as plain Rust, above 1 faster");
-    println!("{:24} {:>13} {:>11} {:>11} {:>6}", "kernel", "plain ns/step", "plain", "proved", "ratio");
-    let mut same = true;
-    for kernel in kernels::all() {
-        same &= time(&kernel);
-    }
-    if !same {
+    println!("a call of the proved program that makes no step, for the bytes alone:");
+    println!("  {:6.0} ns with {REGISTERS} registers and {SPECIALS} special registers (large)", large * 1e9);
+    println!("  {:6.0} ns with {FEW} registers and no special registers (small)", small * 1e9);
+    println!("large, small = the part that this is of a call with all its steps");
+    let [plain, proved] = ["plain", "proved"];
+    println!(
+        "{:24} {:>13} {plain:>11} {proved:>11} {:>6} {:>6} {:>6}",
+        "kernel", "plain ns/step", "ratio", "large", "small"
+    );
+    let same: Vec<bool> = kernels::all().iter().map(|kernel| time(kernel, large, small)).collect();
+    if same.contains(&false) {
         println!("the two programs differ");
         std::process::exit(1);
     }
 }
 
+/// The time of a call on empty code, which is finished at once, in seconds.
+fn no_step(registers: usize, specials: usize) -> f64 {
+    let mut proved = Proved::from(lent(registers, specials));
+    let mut times = Vec::new();
+    for _ in 0..ROUNDS {
+        let time: f64 = (0..CALLS).map(|_| proved.run(&[], u32::MAX).1.as_secs_f64()).sum();
+        times.push(time / CALLS as f64);
+    }
+    median(times)
+}
+
 /// Times one kernel and prints its line; false if the two programs leave something different.
-fn time(kernel: &Kernel) -> bool {
-    let mut plain = Timed::new(plain::run);
-    let mut proved = PROVED.map(Timed::new);
+fn time(kernel: &Kernel, large: f64, small: f64) -> bool {
+    let mut plain = Timed::new(|| Plain(lent(REGISTERS, SPECIALS)));
+    let mut proved = Timed::new(|| Proved::from(lent(REGISTERS, SPECIALS)));
     for round in 0..WARM_UP + ROUNDS {
         plain.round(kernel, round >= WARM_UP);
-        if let Some(proved) = &mut proved {
-            proved.round(kernel, round >= WARM_UP);
-        }
+        proved.round(kernel, round >= WARM_UP);
     }
     let answer = plain.answer.expect("it ran");
     assert_eq!((answer.ending, answer.steps), (Ending::Spent, BUDGET), "{}", kernel.name);
-    let own = plain.median();
+    let same = leave_the_same(&plain, &proved);
+    let [own, other] = [median(plain.times), median(proved.times)];
+    let steps = (other - large).max(0.0);
+    let part = |call: f64| format!("{:.2}%", 100.0 * call / (call + steps));
     print!("{:24} {:13.1} {:11.0}", kernel.name, own * 1e9 / BUDGET as f64, BUDGET as f64 / own);
-    let Some(mut proved) = proved else {
-        println!(" {:>11} {:>6}", "-", "-");
-        return true;
-    };
-    let other = proved.median();
-    println!(" {:11.0} {:6.2}", BUDGET as f64 / other, own / other);
-    plain.leaves_the_same(&proved)
+    println!(" {:11.0} {:6.2} {:>6} {:>6}", BUDGET as f64 / other, own / other, part(large), part(small));
+    same
 }
 
-/// A program, what it was lent and left in the last run, and the times of its runs.
-struct Timed {
-    run: Run,
-    lent: Lent,
+fn median(mut times: Vec<f64>) -> f64 {
+    times.sort_by(f64::total_cmp);
+    times[times.len() / 2]
+}
+
+/// A program with what it was lent and left in the last run, how to lend it the same anew, and the times of its runs in seconds.
+struct Timed<P: Program> {
+    fresh: fn() -> P,
+    program: P,
     answer: Option<Answer>,
-    times: Vec<Duration>,
+    times: Vec<f64>,
 }
 
-impl Timed {
-    fn new(run: Run) -> Timed {
-        Timed { run, lent: kernels::lent(), answer: None, times: Vec::new() }
+impl<P: Program> Timed<P> {
+    fn new(fresh: fn() -> P) -> Timed<P> {
+        Timed { fresh, program: fresh(), answer: None, times: Vec::new() }
     }
 
-    /// One run from the same contents; only the run itself is timed.
+    /// One run from the same contents.
     fn round(&mut self, kernel: &Kernel, counts: bool) {
-        self.lent = kernels::lent();
-        let Lent { registers, uniforms, specials, records } = &mut self.lent;
-        let start = Instant::now();
-        let answer = (self.run)(&kernel.code, registers, uniforms, specials, 0, kernel.mask, BUDGET, records);
-        let time = start.elapsed();
+        self.program = (self.fresh)();
+        let (answer, time) = self.program.run(&kernel.code, kernel.mask);
         self.answer = Some(answer);
         if counts {
-            self.times.push(time);
+            self.times.push(time.as_secs_f64());
         }
     }
+}
 
-    /// The median time of a run, in seconds.
-    fn median(&mut self) -> f64 {
-        self.times.sort();
-        self.times[self.times.len() / 2].as_secs_f64()
+fn leave_the_same(plain: &Timed<Plain>, proved: &Timed<Proved>) -> bool {
+    let (own, other) = (plain.program.left(), proved.program.left());
+    let same =
+        [("answers", plain.answer == proved.answer), ("registers", own.0 == other.0), ("records", own.1 == other.1)];
+    for (what, _) in same.iter().filter(|(_, same)| !same) {
+        println!("  {what} differ");
     }
-
-    fn leaves_the_same(&self, other: &Timed) -> bool {
-        let same = [
-            ("answers", self.answer == other.answer),
-            ("registers", self.lent.registers == other.lent.registers),
-            ("records", self.lent.records == other.lent.records),
-        ];
-        for (what, _) in same.iter().filter(|(_, same)| !same) {
-            println!("  {what} differ");
-        }
-        same.iter().all(|(_, same)| *same)
-    }
+    same.iter().all(|(_, same)| *same)
 }

@@ -27,7 +27,7 @@ pub record Sizes (c : Call) : Type 0 where
   pub inside : c .start ≤ length (c .code)
   pub room : 16 * c .budget ≤ length (c .records)
 
-parts : (p q : Bool) → both p q ≡ true → (p ≡ true) × (q ≡ true)
+pub parts : (p q : Bool) → both p q ≡ true → (p ≡ true) × (q ≡ true)
 parts true true e = (e, e)
 parts true false e = let z : _≡_ {A = ℕ} 0 1 = cc in absurd (omega arith)
 parts false q e = let z : _≡_ {A = ℕ} 0 1 = cc in absurd (omega arith)

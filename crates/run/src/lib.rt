@@ -1,7 +1,7 @@
 // A run: the 32 threads step in lockstep until the code is at its end, the budget is used up, or an instruction is refused.
 ghost use Rattle.run.specs.Ran.{Ran, callOf};
 
-mod sizes;
+pub mod sizes;
 
 use isa::answer::Refusal;
 use machine::answer::Answer;

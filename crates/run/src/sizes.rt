@@ -7,7 +7,7 @@ ghost use Rattle.run.specs.Sizes.{columnsOf, arrangedBy};
 const CODE_LIMIT: usize = 8192;
 const BUDGET_LIMIT: usize = 4096;
 
-fn and(a: bool, b: bool) -> bool
+pub fn and(a: bool, b: bool) -> bool
     ensures { λ r. ⌜ r ≡ both a b ⌝ }
 {
     if a {

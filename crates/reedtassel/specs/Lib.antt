@@ -1,0 +1,4 @@
+pub mod Returned
+pub mod DecodeAt
+pub mod EncodeForm
+pub mod Run

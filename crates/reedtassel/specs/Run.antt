@@ -1,0 +1,11 @@
+-- The exported run: it returns how the run on bytes ended, and leaves what that leaves.
+use Prim.Native.Nat.{ℕ}
+use mathlib.Core.Path.{_≡_}
+use mathlib.Core.List.{List}
+use lib.IntN.{ℤ}
+use Rattle.runbytes.specs.RunBytes.{Lent, endingOf, Leaves}
+use Rattle.reedtassel.specs.Returned.{endedBy}
+
+pub record RunsBytes (l : Lent) (returned : ℤ) (registers records answer : List ℕ) : Type 0 where
+  pub returns : returned ≡ endedBy (endingOf l)
+  pub leaves : Leaves l registers records answer

@@ -1,0 +1,50 @@
+// The interface for C: decoding at an offset, encoding and a run, on numbers and byte slices. docs/c-interface.md has the layouts. A
+// negative number is minus a refusal's. Any numbers and any lengths may be lent.
+ghost use Rattle.reedtassel.specs.DecodeAt.{DecodesAt};
+ghost use Rattle.reedtassel.specs.EncodeForm.{EncodesForm};
+ghost use Rattle.runbytes.specs.RunBytes.{lentOf};
+ghost use Rattle.reedtassel.specs.Run.{RunsBytes};
+
+mod returned;
+
+use bits::piece;
+use isa::answer::Decoded;
+use isa::answer::Refusal;
+
+// The instruction at a byte of the code, in its byte form, and its length. Refused, nothing is written.
+#[no_mangle]
+pub extern "C" fn reedtassel_decode(code: &[u8], offset: usize, instruction: &mut [u8]) -> i32
+    ensures { λ r. ⌜ DecodesAt (now (code .entry)) offset (now (instruction .entry)) r (now (instruction .exit)) ⌝ }
+{
+    if code.len() < offset {
+        return returned::refused(Refusal::BadSize);
+    }
+    if instruction.len() < 48 {
+        return returned::refused(Refusal::BadSize);
+    }
+    match decode::decode(&code[offset..]) {
+        Decoded::Found(i, n) => {
+            let form = form::to_bytes(i);
+            piece::put(instruction, 0, &form);
+            returned::count(n)
+        }
+        Decoded::Refused(r) => returned::refused(r),
+    }
+}
+
+// The bytes of an instruction in its byte form, and their number. Refused, nothing is written.
+#[no_mangle]
+pub extern "C" fn reedtassel_encode(instruction: &[u8], out: &mut [u8]) -> i32
+    ensures { λ r. ⌜ EncodesForm (now (instruction .entry)) (now (out .entry)) r (now (out .exit)) ⌝ }
+{
+    returned::encoded(encode::encode_form(instruction, out))
+}
+
+// A run on the words that the bytes spell. Refused with 1, nothing is written.
+#[no_mangle]
+pub extern "C" fn reedtassel_run(code: &[u8], registers: &mut [u8], uniforms: &[u8], specials: &[u8], start: usize, mask: u32, budget: usize, records: &mut [u8], answer: &mut [u8]) -> i32
+    ensures { λ r. ⌜ RunsBytes (lentOf (now (code .entry)) (now (registers .entry)) (now (uniforms .entry)) (now (specials .entry)) start mask budget (now (records .entry)) (now (answer .entry)))
+        r (now (registers .exit)) (now (records .exit)) (now (answer .exit)) ⌝ }
+{
+    returned::ended(runbytes::run(code, registers, uniforms, specials, start, mask, budget, records, answer))
+}

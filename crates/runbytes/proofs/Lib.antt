@@ -1,0 +1,4 @@
+pub mod Lengths
+pub mod Answers
+pub mod Runs
+pub mod Library

@@ -1,0 +1,48 @@
+-- Where the bytes spell words and the answer has room, the run on bytes is the run on the words in every case, also where that refuses
+-- the call with 1: how it ended, the registers, the records.
+use mathlib.Core.Path.{_≡_, refl, sym, ap, _∙_}
+use mathlib.Core.Bool.{Bool, true, false, cond}
+use mathlib.Core.List.{List}
+use Prim.Native.Nat.{ℕ, _*_, _/_, _%_}
+use native.Mathlib.Omega.{arith}
+use borrow.Author.Tests.{eqb-true}
+use lib.ListN.{length}
+use Rattle.bits.proofs.Laws.{Bytes}
+use Rattle.machine.specs.Run.{Run, arranged, runOf, answerOf, registersLeft, recordsLeft}
+use Rattle.machine.specs.declared.answer.Ending.{Ending}
+use Rattle.machine.proofs.Runs.{badly-arranged}
+use Rattle.machine.proofs.Records.{nothing-written}
+use Rattle.machine.proofs.Sizes.{parts}
+use Rattle.words.specs.Spelling.{wordsOf, bytesFor}
+use Rattle.words.proofs.Laws.{bytes-words}
+use Rattle.runbytes.specs.RunBytes.{Lent, callOf, wholeWords, spelled, taken, endingOf, Leaves}
+
+module _ (l : Lent) (s : spelled l ≡ true) where
+  pub ends-alike : endingOf l ≡ answerOf (runOf (callOf l)) .ending
+  unfolding endingOf answerOf
+  ends-alike = go (arranged (callOf l)) refl
+    where
+      go : (b : Bool) → arranged (callOf l) ≡ b → endingOf l ≡ runOf (callOf l) .ending
+      go true e = rw (s, e)
+      go false e = rw (s, e, badly-arranged (callOf l) e)
+
+  module _ (bytes : Bytes (l .registers)) {registers records answer : List ℕ} (left : Leaves l registers records answer) where
+    pub registers-alike : registers ≡ bytesFor (registersLeft (callOf l))
+    unfolding spelled
+    registers-alike = go (arranged (callOf l)) refl
+      where
+        go : (b : Bool) → arranged (callOf l) ≡ b → registers ≡ bytesFor (registersLeft (callOf l))
+        go true e = rw (s, e) at (left .registers-left)
+        go false e =
+            let whole = eqb-true (length (l .registers) % 4) 0 (parts (wholeWords (length (l .registers))) _ s .0) in
+            let k : registers ≡ l .registers = rw (s, e) at (left .registers-left) in
+            k ∙ sym (bytes-words (l .registers) (length (l .registers) / 4) bytes (omega arith)) ∙ ap bytesFor (sym (nothing-written (callOf l) e .0))
+
+    pub records-alike : records ≡ recordsLeft (callOf l)
+    records-alike = go (arranged (callOf l)) refl
+      where
+        go : (b : Bool) → arranged (callOf l) ≡ b → records ≡ recordsLeft (callOf l)
+        go true e = rw (s, e) at (left .records-left)
+        go false e =
+            let k : records ≡ l .records = rw (s, e) at (left .records-left) in
+            k ∙ sym (nothing-written (callOf l) e .1)

@@ -1,0 +1,125 @@
+use mathlib.Core.Path.{_≡_, refl, sym, ap, _∙_}
+use mathlib.Core.List.{List, []}
+use Prim.Native.Nat.{ℕ, _+_, _*_, _-_, _/_, _%_, _≤_}
+use native.Mathlib.Omega.{arith}
+use borrow.Author.Needs.{needs}
+use lib.ListN.{length, getD, drop, set, length-set, drop-of-length-le}
+use lib.Seq.{sets, length-sets}
+use Rattle.bits.specs.Word.{bytesOf}
+use Rattle.bits.proofs.Pieces.{after}
+use Rattle.words.specs.Spelling.{bytesFor}
+use Rattle.words.proofs.Laws.{length-bytes, bytes-next, four-set, filled}
+use Rattle.words.proofs.store.Statement.{statement}
+use Rattle.words.proofs.store.Tie as tie
+
+abbrev Inv-loop : tie.InvT-loop
+Inv-loop words bytes₀ i₀ bytes i =
+    (i ≤ length words) × (length bytes ≡ length bytes₀) × (sets bytes (4 * i) (bytesFor (drop i words)) ≡ sets bytes₀ 0 (bytesFor words))
+
+abbrev μ-loop : tie.MeasureT-loop
+μ-loop words bytes₀ i₀ bytes i = length words - i
+
+loop-holds : tie.Need-loop-holds Inv-loop μ-loop
+loop-holds c = (omega arith, refl, refl)
+
+mul-at : tie.Need-mul-at Inv-loop μ-loop
+mul-at c = omega arith
+
+mul-w : tie.Need-mul-w Inv-loop μ-loop
+mul-w c = omega arith
+
+shared-slice-read-w : tie.Need-shared-slice-read-w Inv-loop μ-loop
+shared-slice-read-w c = omega arith
+
+cast-bytes : tie.Need-cast-bytes Inv-loop μ-loop
+cast-bytes c = search needs
+
+slice-write-bytes : tie.Need-slice-write-bytes Inv-loop μ-loop
+slice-write-bytes c = omega arith
+
+cast-bytes-2 : tie.Need-cast-bytes-2 Inv-loop μ-loop
+cast-bytes-2 c = search needs
+
+add-bytes : tie.Need-add-bytes Inv-loop μ-loop
+add-bytes c = omega arith
+
+slice-write-bytes-2 : tie.Need-slice-write-bytes-2 Inv-loop μ-loop
+slice-write-bytes-2 c = simp length-set (omega arith)
+
+cast-bytes-3 : tie.Need-cast-bytes-3 Inv-loop μ-loop
+cast-bytes-3 c = search needs
+
+add-bytes-2 : tie.Need-add-bytes-2 Inv-loop μ-loop
+add-bytes-2 c = omega arith
+
+slice-write-bytes-3 : tie.Need-slice-write-bytes-3 Inv-loop μ-loop
+slice-write-bytes-3 c = simp length-set (omega arith)
+
+cast-bytes-4 : tie.Need-cast-bytes-4 Inv-loop μ-loop
+cast-bytes-4 c = search needs
+
+add-bytes-3 : tie.Need-add-bytes-3 Inv-loop μ-loop
+add-bytes-3 c = omega arith
+
+slice-write-bytes-4 : tie.Need-slice-write-bytes-4 Inv-loop μ-loop
+slice-write-bytes-4 c = simp length-set (omega arith)
+
+add-i : tie.Need-add-i Inv-loop μ-loop
+add-i c = omega arith
+
+loop-less : tie.Need-loop-less Inv-loop μ-loop
+loop-less c = omega arith
+
+loop-again : tie.Need-loop-again Inv-loop μ-loop
+loop-again c =
+    let l = c .before .before .loop in
+    let a = c .before .before .before .args in
+    let s = a .words .now in
+    let w = getD s (l .i) 0 in
+    let n = 4 * l .i in
+    let t = set (set (set (set (l .bytes) n (w % 256)) (n + 1) (w / 256 % 256)) (n + 2) (w / 256 / 256 % 256)) (n + 3) (w / 256 / 256 / 256 % 256) in
+    let e : t ≡ sets (l .bytes) n (bytesOf 4 w) = four-set (l .bytes) n (w % 256) (w / 256 % 256) (w / 256 / 256 % 256) (w / 256 / 256 / 256 % 256) in (
+      omega arith,
+      ap length e ∙ length-sets (l .bytes) n (bytesOf 4 w) ∙ l .inv .1,
+      after (bytesOf 4 w) (bytesFor (drop (l .i + 1) s)) (bytesFor (drop (l .i) s)) (l .bytes) t n (4 * (l .i + 1)) e (omega arith) (bytes-next s (l .i) (omega arith))
+          ∙ l .inv .2,
+    )
+
+same-length : tie.Need-same-length Inv-loop μ-loop
+same-length c = omega arith
+
+returns : tie.Need-returns Inv-loop μ-loop
+returns c =
+    let l = c .before .loop in
+    let a = c .before .before .args in
+    let s = a .words .now in
+    let e : drop (l .i) s ≡ [] = drop-of-length-le s {i = l .i} (omega arith) in
+    ap (λ (t : List ℕ). sets (l .bytes) (4 * l .i) (bytesFor t)) (sym e) ∙ l .inv .2
+    ∙ filled (a .bytes .now) (bytesFor s) (omega (arith, length-bytes s))
+
+pub store-spec : {M : Type 1} → statement M
+store-spec =
+    tie.close
+    (tie.spec
+    Inv-loop
+    μ-loop
+    loop-holds
+    mul-at
+    mul-w
+    shared-slice-read-w
+    cast-bytes
+    slice-write-bytes
+    cast-bytes-2
+    add-bytes
+    slice-write-bytes-2
+    cast-bytes-3
+    add-bytes-2
+    slice-write-bytes-3
+    cast-bytes-4
+    add-bytes-3
+    slice-write-bytes-4
+    add-i
+    loop-less
+    loop-again
+    same-length
+    returns)

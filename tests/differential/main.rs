@@ -1,0 +1,46 @@
+//! Compares the exported functions of the proved program with the plain Rust program, on random and damaged instructions and on
+//! random runs: every answer, and every byte of every buffer. What is lent lies against pages that nobody may touch.
+//!
+//! The arguments are a factor for the number of cases and a seed; with the same two the cases are the same. With `--named`
+//! before them each case is named before it is tried.
+
+mod arrange;
+mod damage;
+mod decoding;
+mod encoding;
+#[path = "../../bench/exported.rs"]
+#[allow(dead_code)]
+mod exported;
+mod guarded;
+mod instructions;
+mod kernels;
+mod nulls;
+#[path = "../../bench/plain/mod.rs"]
+#[allow(dead_code, unused_imports)]
+mod plain;
+mod random;
+mod report;
+mod running;
+mod stepped;
+
+use report::Report;
+
+const DECODED: u64 = 204_800;
+const ENCODED: u64 = 307_200;
+const RUNS: u64 = 6_144;
+const SEED: u64 = 20_260;
+
+fn main() {
+    let mut arguments = std::env::args().skip(1).peekable();
+    let named = arguments.next_if_eq("--named").is_some();
+    let rounds: f64 = arguments.next().map_or(1.0, |rounds| rounds.parse().expect("a factor"));
+    let seed: u64 = arguments.next().map_or(SEED, |seed| seed.parse().expect("a seed"));
+    println!("seed {seed}");
+    let cases = |count: u64| (count as f64 * rounds) as u64;
+    let mut report = Report::new(named);
+    nulls::compare(&mut report);
+    decoding::compare(&mut report, seed, cases(DECODED));
+    encoding::compare(&mut report, seed, cases(ENCODED));
+    running::compare(&mut report, seed, cases(RUNS));
+    std::process::exit(if report.end() { 0 } else { 1 });
+}

@@ -1,0 +1,53 @@
+//! NULL where a length is 0: what each call answers, by the words of the interface.
+
+use crate::exported::{reedtassel_decode, reedtassel_encode, reedtassel_run};
+use crate::plain::calls::ANSWER_BYTES;
+use crate::report::Report;
+use std::ptr::{null, null_mut};
+
+/// The form of `62 04 34 12`.
+fn mov16() -> [u8; 48] {
+    let mut form = [0; 48];
+    crate::plain::calls::decode(&[0x62, 0x04, 0x34, 0x12], 0, &mut form);
+    form
+}
+
+/// The number of a run that is lent registers and uniforms, and NULL for code and special registers.
+fn run() -> i32 {
+    let (mut registers, uniforms) = ([0u8; 128], [0u8; 1024]);
+    let (mut records, mut answer) = ([0u8; 16], [0u8; ANSWER_BYTES]);
+    let (registers, uniforms) = (registers.as_mut_ptr(), uniforms.as_ptr());
+    let (records, answer) = (records.as_mut_ptr(), answer.as_mut_ptr());
+    unsafe {
+        reedtassel_run(null(), 0, registers, 128, uniforms, 1024, null(), 0, 0, 1, 1, records, 16, answer, ANSWER_BYTES)
+    }
+}
+
+fn run_of_nothing() -> i32 {
+    let (bytes, room) = (null(), null_mut());
+    unsafe { reedtassel_run(bytes, 0, room, 0, bytes, 0, bytes, 0, 0, 1, 1, room, 0, room, 0) }
+}
+
+pub fn compare(report: &mut Report) {
+    let form = mov16();
+    let mut room = [0u8; 48];
+    let (of_form, to) = (form.as_ptr(), room.as_mut_ptr());
+    // NULL comes with length 0 alone
+    let answers = unsafe {
+        [
+            ("decode, no code", reedtassel_decode(null(), 0, 0, to, 48), -2),
+            ("decode, no code, an offset", reedtassel_decode(null(), 0, 1, to, 48), -1),
+            ("decode, no code and no buffer", reedtassel_decode(null(), 0, 0, null_mut(), 0), -1),
+            ("decode, no buffer", reedtassel_decode(of_form, 48, 0, null_mut(), 0), -1),
+            ("encode, no form", reedtassel_encode(null(), 0, to, 48), -8),
+            ("encode, no form and no buffer", reedtassel_encode(null(), 0, null_mut(), 0), -8),
+            ("encode, no buffer", reedtassel_encode(of_form, 48, null_mut(), 0), -9),
+            ("run, no code and no special registers", run(), 0),
+            ("run, nothing at all", run_of_nothing(), -1),
+        ]
+    };
+    report.compare("NULL where the length is 0", answers.len() as u64, |number| {
+        let (what, got, want) = answers[number as usize];
+        (got != want).then(|| format!("{what}: {got} and not {want}"))
+    });
+}
