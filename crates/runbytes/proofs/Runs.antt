@@ -9,8 +9,8 @@ use Rattle.machine.specs.declared.answer.Ending.{Ending}
 use Rattle.machine.specs.declared.answer.Answer.{Answer}
 use Rattle.run.specs.Ran as library
 use Rattle.words.specs.Spelling.{wordsOf, bytesFor}
-use Rattle.runbytes.specs.RunBytes.{Lent, callOf, answerLength, answerBytes, endingOf, Ran}
-use Rattle.runbytes.specs.Space.{Space}
+use Rattle.runbytes.specs.RunBytes.{Lent, callOf, answerLength, answerBytes, endingOf}
+use Rattle.runbytes.specs.Space.{Space, RanIn}
 use Rattle.runbytes.proofs.Answers.{put-first}
 
 module _ (l : Lent) {r u s : ℕ} (h : Space l r u s) where
@@ -19,21 +19,27 @@ module _ (l : Lent) {r u s : ℕ} (h : Space l r u s) where
       → (a : Answer) (words records : List ℕ)
       → library.Ran (library.callOf (l .code) rw₀ uw sw (l .start) (l .mask) (l .budget) (l .records)) a words records
       → (registers bytes answer : List ℕ) → registers ≡ bytesFor words → bytes ≡ answerBytes a → answer ≡ sets (l .answer) 0 bytes
-      → Ran l (a .ending) registers records answer
+      → RanIn l (a .ending) registers records answer words uw sw
   unfolding endingOf
   runs rw₀ uw sw er eu es a words records given registers bytes answer e f g =
       let q : library.Ran (callOf l) a words records = rw (er, eu, es) at given in
       let t = h .is-taken in
       record {
-        ends = rw t (ap (λ (x : Answer). x .ending) (q .answers));
-        leaves =
+        ran =
             record {
-              registers-left = rw t (e ∙ ap bytesFor (q .leaves));
-              records-left = rw t (q .writes);
-              answer-left =
-                  rw t
-                  (g ∙ ap (sets (l .answer) 0) f
-                    ∙ put-first (l .answer) (answerBytes a) answerLength refl (h .answer-fits)
-                    ∙ ap (λ (x : Answer). answerBytes x ++ drop answerLength (l .answer)) (q .answers));
+              ends = rw t (ap (λ (x : Answer). x .ending) (q .answers));
+              leaves =
+                  record {
+                    registers-left = rw t (e ∙ ap bytesFor (q .leaves));
+                    records-left = rw t (q .writes);
+                    answer-left =
+                        rw t
+                        (g ∙ ap (sets (l .answer) 0) f
+                          ∙ put-first (l .answer) (answerBytes a) answerLength refl (h .answer-fits)
+                          ∙ ap (λ (x : Answer). answerBytes x ++ drop answerLength (l .answer)) (q .answers));
+                  };
             };
+        register-words = q .leaves;
+        uniform-words = eu;
+        special-words = es;
       }

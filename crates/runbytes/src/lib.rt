@@ -1,7 +1,7 @@
 // A run whose registers, uniforms and special registers are lent as little-endian bytes.
 ghost use lib.ListN.{length};
 ghost use Rattle.runbytes.specs.RunBytes.{Ran, lentOf};
-ghost use Rattle.runbytes.specs.Space.{Space};
+ghost use Rattle.runbytes.specs.Space.{Space, RanIn};
 
 mod answer;
 mod lent;
@@ -14,8 +14,8 @@ use machine::answer::Ending;
 fn run_in(code: &[u8], registers: &mut [u8], uniforms: &[u8], specials: &[u8], start: usize, mask: u32, budget: usize, records: &mut [u8], answer: &mut [u8], r: &mut [u32], u: &mut [u32], s: &mut [u32]) -> Ending
     requires { ⌜ Space (lentOf (now code) (now registers) (now uniforms) (now specials) start mask budget (now records) (now answer))
         (length (now r)) (length (now u)) (length (now s)) ⌝ }
-    ensures { λ e. ⌜ Ran (lentOf (now (code .entry)) (now (registers .entry)) (now (uniforms .entry)) (now (specials .entry)) start mask budget (now (records .entry)) (now (answer .entry)))
-        e (now (registers .exit)) (now (records .exit)) (now (answer .exit)) ⌝ }
+    ensures { λ e. ⌜ RanIn (lentOf (now (code .entry)) (now (registers .entry)) (now (uniforms .entry)) (now (specials .entry)) start mask budget (now (records .entry)) (now (answer .entry)))
+        e (now (registers .exit)) (now (records .exit)) (now (answer .exit)) (now (r .exit)) (now (u .exit)) (now (s .exit)) ⌝ }
 {
     words::load(registers, r);
     words::load(uniforms, u);

@@ -1,5 +1,6 @@
 use borrow.Author.Needs.{needs}
 use mathlib.Core.Path.{_∙_}
+use native.Mathlib.Omega.{arith}
 use Rattle.reedtassel.proofs.Numbers.{handed-on}
 use Rattle.reedtassel.proofs.returned.encoded.Statement.{statement}
 use Rattle.reedtassel.proofs.returned.encoded.Tie as tie
@@ -8,7 +9,9 @@ enum-known-e : tie.Need-enum-known-e
 enum-known-e c = search needs
 
 count-requires : tie.Need-count-requires
-count-requires c κs = rw (c .before .e .given .1) at (c .before .before .before .pre)
+count-requires c κs =
+    let h = rw (c .before .e .given .1) at (c .before .before .before .pre) in
+    omega arith
 
 enum-known-e-2 : tie.Need-enum-known-e-2
 enum-known-e-2 c = search needs
