@@ -13,7 +13,8 @@ use Rattle.isa.specs.Operand.{destinationOf}
 use Rattle.isa.specs.Together.{withDst}
 use Rattle.isa.specs.Decode.{decodeOf}
 use Rattle.listing.specs.Walk.{walkFrom, walkOf, shown, stop, refusal}
-use Rattle.listing.specs.Listing.{lineOf, endLine, textOf, listingOf}
+use Rattle.lines.specs.Line.{lineOf, endLine}
+use Rattle.listing.specs.Listing.{textOf, listingOf}
 use Rattle.listing.proofs.Apart.{text-same}
 use Rattle.listing.proofs.Seen.{plain, seen}
 

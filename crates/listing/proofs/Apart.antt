@@ -15,7 +15,8 @@ use Rattle.isa.specs.Place.{placeOf}
 use Rattle.isa.specs.declared.answer.Refusal.{Refusal}
 use Rattle.isa.specs.declared.instruction.Instruction.{Instruction}
 use Rattle.listing.specs.Walk.{Walk, ended, refused, stepped, shown, refusal}
-use Rattle.listing.specs.Listing.{digit, hexBytes, tailAt, lineOf, endLine, refusedLine, textOf}
+use Rattle.lines.specs.Line.{digit, hexBytes, tailAt, lineOf, endLine, refusedLine}
+use Rattle.listing.specs.Listing.{textOf}
 use Rattle.bits.proofs.Table.{agree}
 use Rattle.isa.proofs.Placed.{place-below}
 

@@ -16,8 +16,9 @@ use Rattle.isa.specs.declared.answer.Decoded.{Decoded}
 use Rattle.isa.specs.declared.instruction.Instruction.{Instruction}
 use Rattle.listing.specs.Walk.{Walk, refused, stepped, onDecoded, walkFrom, walkOf, decodedAt, limit}
 use Rattle.isa.specs.Place.{placeOf}
-use Rattle.listing.specs.Listing.{textOf, listingOf, lineOf, endLine, refusedLine, tailAt}
-use Rattle.listing.proofs.Pieces.{length-line}
+use Rattle.lines.specs.Line.{lineOf, endLine, refusedLine, tailAt}
+use Rattle.listing.specs.Listing.{textOf, listingOf}
+use Rattle.lines.proofs.Lengths.{length-line}
 
 -- ---- the walk, one step at a time
 

@@ -1,5 +1,3 @@
-pub mod Pieces
-pub mod Headings
 pub mod Left
 pub mod Apart
 pub mod Seen

@@ -14,11 +14,12 @@ use Rattle.isa.specs.Place.{placeOf}
 use Rattle.isa.specs.declared.answer.Refusal.{Refusal}
 use Rattle.isa.specs.declared.instruction.Instruction.{Instruction}
 use Rattle.listing.specs.Walk.{Walk, refused, stepped, walkFrom, walkOf, limit}
-use Rattle.listing.specs.Listing.{lineOf, tailAt, endLine, refusedLine, textOf, listingOf, listedOf, leftBy}
+use Rattle.lines.specs.Line.{lineOf, tailAt, endLine, refusedLine}
+use Rattle.listing.specs.Listing.{textOf, listingOf, listedOf, leftBy}
 use Rattle.listing.specs.declared.Listed.{Listed}
-use Rattle.listing.proofs.Pieces.{length-line}
+use Rattle.lines.proofs.Lengths.{length-line}
 use Rattle.isa.proofs.Placed.{place-below}
-use Rattle.listing.proofs.Headings.{size-right, size-small}
+use Rattle.lines.proofs.Headings.{size-right, size-small}
 use Rattle.listing.proofs.Left.{step-all}
 
 -- an instruction of n bytes, at least four, takes at most 7 * n

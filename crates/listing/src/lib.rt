@@ -3,9 +3,6 @@ ghost use mathlib.Core.Path.{_≡_};
 ghost use lib.ListN.{length};
 ghost use Rattle.listing.specs.Listing.{listedOf, leftBy};
 
-mod heading;
-mod hex;
-mod line;
 mod walk;
 
 use isa::answer::Refusal;

@@ -6,7 +6,6 @@ ghost use lib.Seq.{sets};
 ghost use Rattle.listing.specs.Walk.{decodedAt};
 ghost use Rattle.listing.specs.Listing.{listingOf};
 use crate::LIMIT;
-use crate::line;
 use isa::answer::Decoded;
 use isa::answer::Refusal;
 
@@ -29,7 +28,7 @@ pub fn measure(code: &[u8]) -> usize
     while at < code.len() {
         match decoded_at(code, at) {
             Decoded::Found(i, k) => {
-                n += line::line_length(i, k);
+                n += lines::line_length(i, k);
                 at += k;
             }
             Decoded::Refused(_) => return n + 15,
@@ -48,15 +47,15 @@ pub fn write(code: &[u8], text: &mut [u8])
         match decoded_at(code, at) {
             Decoded::Found(i, k) => {
                 let end = at + k;
-                line::put_line(text, n, at, &code[at..end], i);
-                n += line::line_length(i, k);
+                lines::put_line(text, n, at, &code[at..end], i);
+                n += lines::line_length(i, k);
                 at = end;
             }
             Decoded::Refused(r) => {
-                line::put_refused(text, n, at, r);
+                lines::put_refused(text, n, at, r);
                 return;
             }
         }
     }
-    line::put_end(text, n, at);
+    lines::put_end(text, n, at);
 }

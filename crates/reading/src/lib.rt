@@ -5,14 +5,6 @@ ghost use Rattle.isa.specs.Decode.{readAt};
 ghost use Rattle.isa.specs.Read.{bitfield, shift, scan, compare};
 ghost use Rattle.reading.specs.Make.{bitfieldAt, shiftAt, scanAt, compareAt, fieldsAt, keptAt};
 
-mod operand;
-
-use crate::operand::cache_hint;
-use crate::operand::destination;
-use crate::operand::read_binary;
-use crate::operand::read_compared;
-use crate::operand::read_ternary;
-use crate::operand::read_unary;
 use isa::answer::Reading;
 use isa::instruction::Bitfield;
 use isa::instruction::Compare;
@@ -24,6 +16,12 @@ use isa::operand::ReadCompared;
 use isa::operand::ReadDst;
 use isa::operand::ReadTernary;
 use isa::operand::ReadUnary;
+use operands::cache_hint;
+use operands::destination;
+use operands::read_binary;
+use operands::read_compared;
+use operands::read_ternary;
+use operands::read_unary;
 
 fn read_mov16(w: u64) -> Reading
     ensures { λ r. ⌜ r ≡ readAt 0 w ⌝ }

@@ -4,7 +4,8 @@ use Prim.Native.Nat.{_+_, _*_, _-_, _≤_}
 use native.Mathlib.Omega.{arith}
 use lib.ListN.{length}
 use Rattle.listing.specs.Walk.{limit}
-use Rattle.listing.specs.Listing.{listingOf, endLine, refusedLine}
+use Rattle.lines.specs.Line.{endLine, refusedLine}
+use Rattle.listing.specs.Listing.{listingOf}
 use Rattle.listing.proofs.Left.{left, left-all, Step, step, left-refused, left-end}
 use borrow.Author.Needs.{needs}
 use Rattle.listing.proofs.walk.measure.Statement.{statement}

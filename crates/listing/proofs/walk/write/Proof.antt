@@ -5,10 +5,11 @@ use Prim.Native.Nat.{ℕ, _+_, _-_, _≤_}
 use native.Mathlib.Omega.{arith}
 use lib.ListN.{length, take, drop}
 use Rattle.listing.specs.Walk.{limit}
-use Rattle.listing.specs.Listing.{listingOf, lineOf, endLine, refusedLine}
+use Rattle.lines.specs.Line.{lineOf, endLine, refusedLine}
+use Rattle.listing.specs.Listing.{listingOf}
 use lib.Seq.{sets}
 use Rattle.bits.proofs.Pieces.{after}
-use Rattle.listing.proofs.Pieces.{length-line}
+use Rattle.lines.proofs.Lengths.{length-line}
 use Rattle.listing.proofs.Left.{left, left-all, Step, step, left-refused, left-end}
 use borrow.Author.Needs.{needs}
 use Rattle.listing.proofs.walk.write.Statement.{statement}

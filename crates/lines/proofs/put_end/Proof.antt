@@ -1,0 +1,39 @@
+-- Address and `end`, put one after the other, are the last line.
+use mathlib.Core.Path.{refl, _∙_}
+use mathlib.Core.List.{_++_}
+use Prim.Native.Nat.{_+_}
+use Rattle.isa.specs.Text.{ascii}
+use Rattle.lines.specs.Line.{hexAddress, endLine}
+use Rattle.bits.proofs.Pieces.{after}
+use borrow.Author.Needs.{needs}
+use Rattle.lines.proofs.put_end.Statement.{statement}
+use Rattle.lines.proofs.put_end.Tie as tie
+
+put-address-requires : tie.Need-put-address-requires
+put-address-requires c κs = search needs
+
+add-put : tie.Need-add-put
+add-put c = search needs
+
+slice-aggregate-put : tie.Need-slice-aggregate-put
+slice-aggregate-put c = search needs
+
+put-requires : tie.Need-put-requires
+put-requires c κs = search needs
+
+same-length : tie.Need-same-length
+same-length c = search needs
+
+returns : tie.Need-returns
+unfolding endLine
+returns c =
+    let a = c .before .before .before .before .before .before .before .before .before .before .args in
+    let u = c .before .before .before .before .before .before .before .put-address in
+    c .before .before .put .ensures
+    ∙ after (hexAddress (a .at) ++ ascii " ") (ascii "end\n") (endLine (a .at)) (a .text .now) (u .last .0) (a .n) (a .n + 5)
+    (u .ensures) refl refl
+
+pub put-end-spec : {M : Type 1} → statement M
+put-end-spec =
+    tie.close
+    (tie.spec put-address-requires add-put slice-aggregate-put put-requires same-length returns)

@@ -1,0 +1,66 @@
+-- Address and `refused` with the digit of the number, put one after the other, are the last line.
+use mathlib.Core.Path.{_≡_, refl, ap, _∙_}
+use mathlib.Core.List.{_∷_, _++_}
+use Prim.Native.Nat.{ℕ, _+_}
+use native.Mathlib.Omega.{arith}
+use lib.Seq.{sets}
+use Rattle.isa.specs.Text.{ascii}
+use Rattle.isa.specs.Refusal.{numberOf}
+use Rattle.lines.specs.Line.{digit, hexAddress, refusedLine}
+use Rattle.bits.proofs.Pieces.{after}
+use Rattle.lines.proofs.Lengths.{number-below}
+use borrow.Author.Needs.{needs}
+use Rattle.lines.proofs.put_refused.Statement.{statement}
+use Rattle.lines.proofs.put_refused.Tie as tie
+
+put-address-requires : tie.Need-put-address-requires
+put-address-requires c κs = search needs
+
+number-requires : tie.Need-number-requires
+number-requires c κs = search needs
+
+hex-digit-requires : tie.Need-hex-digit-requires
+hex-digit-requires c κs = omega (arith, number-below (c .before .before .before .before .before .before .before .before .args .r))
+
+array-write-word : tie.Need-array-write-word
+array-write-word c = search needs
+
+add-put : tie.Need-add-put
+add-put c = search needs
+
+slice-aggregate-put : tie.Need-slice-aggregate-put
+slice-aggregate-put c = search needs
+
+put-requires : tie.Need-put-requires
+put-requires c κs = search needs
+
+same-length : tie.Need-same-length
+same-length c = search needs
+
+returns : tie.Need-returns
+unfolding refusedLine
+returns c =
+    let p = c .before .before .before .before .before .before .before .before .before .before .before in
+    let a = p .before .before .before .args in
+    let u = p .put-address in
+    let x = c .before .before .before .before .before .hex-digit in
+    let d = digit (numberOf (a .r)) in
+    let e : x .result ≡ d = x .ensures ∙ ap digit (c .before .before .before .before .before .before .number .ensures) in
+    c .before .before .put .ensures
+    ∙ ap (λ (y : ℕ). sets (u .last .0) (a .n + 5) (ascii "refused " ++ y ∷ ascii "\n")) e
+    ∙ after (hexAddress (a .at) ++ ascii " ") (ascii "refused " ++ d ∷ ascii "\n") (refusedLine (a .at) (a .r)) (a .text .now)
+    (u .last .0) (a .n) (a .n + 5) (u .ensures) refl refl
+
+pub put-refused-spec : {M : Type 1} → statement M
+put-refused-spec =
+    tie.close
+    (tie.spec
+    put-address-requires
+    number-requires
+    hex-digit-requires
+    array-write-word
+    add-put
+    slice-aggregate-put
+    put-requires
+    same-length
+    returns)

@@ -1,0 +1,51 @@
+// The lines of a listing, put into a text at a place.
+ghost use mathlib.Core.Path.{_≡_};
+ghost use Prim.Native.Nat.{_+_, _*_, _≤_, _<_};
+ghost use lib.ListN.{length};
+ghost use lib.Seq.{sets};
+ghost use Rattle.isa.specs.Place.{placeOf};
+ghost use Rattle.lines.specs.Line.{tailAt, lineOf, endLine, refusedLine};
+
+mod heading;
+mod hex;
+
+use bits::piece;
+use isa::answer;
+use isa::answer::Refusal;
+use isa::instruction;
+use isa::instruction::Instruction;
+
+// How long the line of an instruction of k bytes is.
+pub fn line_length(i: Instruction, k: usize) -> usize
+    requires { ⌜ k ≤ 8 ⌝ }
+    ensures { λ r. ⌜ (r ≡ 5 + 2 * k + length (tailAt (placeOf i))) × (r ≤ 36) ⌝ }
+{
+    5 + 2 * k + heading::tail_length(instruction::place(i))
+}
+
+pub fn put_line(text: &mut [u8], n: usize, at: usize, bytes: &[u8], i: Instruction)
+    requires { ⌜ (n + (5 + 2 * length (now bytes) + length (tailAt (placeOf i))) ≤ length (now text)) × (at < 65536) ⌝ }
+    ensures { λ r. ⌜ now (text .exit) ≡ sets (now (text .entry)) n (lineOf at (now (bytes .entry)) i) ⌝ }
+{
+    hex::put_address(text, n, at);
+    hex::put_bytes(text, n + 5, bytes);
+    heading::put_tail(text, n + 5 + 2 * bytes.len(), instruction::place(i));
+}
+
+pub fn put_end(text: &mut [u8], n: usize, at: usize)
+    requires { ⌜ (n + 9 ≤ length (now text)) × (at < 65536) ⌝ }
+    ensures { λ r. ⌜ now (text .exit) ≡ sets (now (text .entry)) n (endLine at) ⌝ }
+{
+    hex::put_address(text, n, at);
+    piece::put(text, n + 5, b"end\n");
+}
+
+pub fn put_refused(text: &mut [u8], n: usize, at: usize, r: Refusal)
+    requires { ⌜ (n + 15 ≤ length (now text)) × (at < 65536) ⌝ }
+    ensures { λ _. ⌜ now (text .exit) ≡ sets (now (text .entry)) n (refusedLine at r) ⌝ }
+{
+    hex::put_address(text, n, at);
+    let mut word = *b"refused 0\n";
+    word[8] = hex::hex_digit(answer::number(r));
+    piece::put(text, n + 5, &word);
+}
