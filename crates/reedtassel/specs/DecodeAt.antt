@@ -6,11 +6,13 @@ use mathlib.Core.Bool.{Bool, cond}
 use mathlib.Core.List.{List, _++_}
 use lib.Dec.{leb}
 use lib.IntN.{ℤ}
-use lib.ListN.{length, drop}
+use lib.ListN.{length, take, drop}
 use Rattle.isa.specs.Decode.{decodeOf}
 use Rattle.isa.specs.declared.answer.Refusal.{Refusal}
 use Rattle.isa.specs.declared.answer.Decoded.{Decoded}
-use Rattle.form.specs.Form.{formOf}
+use Rattle.isa.specs.declared.instruction.Instruction.{Instruction}
+use Rattle.form.specs.Form.{formOf, spelledOf}
+use Rattle.form.specs.declared.Spelled.{Spelled}
 use Rattle.machine.specs.Meaning.{both}
 use Rattle.reedtassel.specs.Returned.{decodedBy}
 
@@ -32,3 +34,6 @@ formLeft (Decoded.Refused r) instruction = instruction
 pub record DecodesAt (code : List ℕ) (offset : ℕ) (instruction : List ℕ) (returned : ℤ) (left : List ℕ) : Type 0 where
   pub returns : returned ≡ decodedBy (decodedAt code offset instruction)
   pub leaves : left ≡ formLeft (decodedAt code offset instruction) instruction
+  -- what was written, read back, is the instruction
+  pub spells : (i : Instruction) (n : ℕ) → decodedAt code offset instruction ≡ Decoded.Found i n
+      → spelledOf (take formLength left) ≡ Spelled.Is i

@@ -20,7 +20,7 @@ refused-requires-2 c κs = search needs
 returns-2 : tie.Need-returns-2
 returns-2 c =
     let a = c .before .before .before .before .before .args in
-    no-room (a .code .now) (a .offset) (a .instruction .now) (c .before .before .if1 .left) _ (c .before .if2 .taken)
+    no-room (a .code .now) (a .offset) (a .instruction .now) _ (c .before .before .if1 .left) (c .before .if2 .taken)
     (handed-on (c .refused2 .result) (c .refused2 .ok) ∙ c .refused2 .ensures)
 
 sub-decode : tie.Need-sub-decode
@@ -51,7 +51,7 @@ count-requires : tie.Need-count-requires
 count-requires c κs =
     let m = c .before .before .before .before .before .before .before in
     let a = m .before .before .before .before .before .before .before .before .args in
-    small (a .code .now) (a .offset) (a .instruction .now) (m .before .before .before .before .before .if1 .left) _ (m .before .before .decode .ensures) _ _ (m .i .given .1)
+    small (a .code .now) (a .offset) (m .before .before .before .before .before .if1 .left) _ (m .before .before .decode .ensures) _ _ (m .i .given .1)
 
 enum-known-r : tie.Need-enum-known-r
 enum-known-r c = search needs
@@ -66,15 +66,15 @@ returns-3 : tie.Need-returns-3
 returns-3 c =
     let m = c .before .before .before .before .before .before .before .before in
     let a = m .before .before .before .before .before .before .before .before .args in
-    found (a .code .now) (a .offset) (a .instruction .now) (m .before .before .before .before .before .if1 .left) _ (m .before .before .decode .ensures) (m .before .before .before .before .if2 .left)
-    _ _ (m .i .given .1) _ (handed-on (c .count .result) (c .count .ok) ∙ c .count .ensures) _ _ (c .before .before .before .before .before .before .to-bytes .ensures .0) (c .before .before .before .put .ensures)
+    found (a .code .now) (a .offset) (a .instruction .now) _ (m .before .before .before .before .before .if1 .left) _ (m .before .before .decode .ensures) (m .before .before .before .before .if2 .left)
+    _ _ (m .i .given .1) (handed-on (c .count .result) (c .count .ok) ∙ c .count .ensures) _ _ (c .before .before .before .before .before .before .to-bytes .ensures) (c .before .before .before .put .ensures)
 
 returns-4 : tie.Need-returns-4
 returns-4 c =
     let m = c .before .before in
     let a = m .before .before .before .before .before .before .before .before .args in
-    refused (a .code .now) (a .offset) (a .instruction .now) (m .before .before .before .before .before .if1 .left) _ (m .before .before .decode .ensures) (m .before .before .before .before .if2 .left)
-    _ (m .r .given .1) _ (handed-on (c .refused3 .result) (c .refused3 .ok) ∙ c .refused3 .ensures)
+    refused (a .code .now) (a .offset) (a .instruction .now) _ (m .before .before .before .before .before .if1 .left) _ (m .before .before .decode .ensures) (m .before .before .before .before .if2 .left)
+    _ (m .r .given .1) (handed-on (c .refused3 .result) (c .refused3 .ok) ∙ c .refused3 .ensures)
 
 pub reedtassel-decode-spec : {M : Type 1} → statement M
 reedtassel-decode-spec =
