@@ -1,5 +1,5 @@
--- Decoding at an offset: what it returns and leaves. A decoded instruction crosses in its byte form, 48 bytes. Refusal 1 is for an
--- offset above the code length and for a buffer that is too short, before anything is decoded.
+-- Decoding at an offset, reedtassel_decode of docs/c-interface.md: what it returns and leaves. A decoded instruction crosses in its byte
+-- form, 48 bytes. Refusal 1 is for an offset above the code length and for a buffer that is too short, before anything is decoded.
 use Prim.Native.Nat.{ℕ}
 use mathlib.Core.Path.{_≡_}
 use mathlib.Core.Bool.{Bool, cond}

@@ -1,4 +1,5 @@
--- Encoding from the byte form: what it returns and leaves is what the encoder answers and leaves.
+-- Encoding from the byte form, reedtassel_encode of docs/c-interface.md: what it returns and leaves is what the encoder answers and
+-- leaves.
 use Prim.Native.Nat.{ℕ}
 use mathlib.Core.Path.{_≡_}
 use mathlib.Core.List.{List}

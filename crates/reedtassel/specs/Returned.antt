@@ -1,4 +1,4 @@
--- The numbers that the exported functions return: minus the number of a refusal, or what was done.
+-- The numbers that the exported functions return, as docs/c-interface.md has them: minus the number of a refusal, or what was done.
 use lib.IntN.{ℤ, pos, negℤ}
 use Rattle.isa.specs.Refusal.{numberOf}
 use Rattle.isa.specs.declared.answer.Refusal.{Refusal}

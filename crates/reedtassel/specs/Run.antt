@@ -1,4 +1,4 @@
--- The exported run: it returns how the run on bytes ended, and leaves what that leaves.
+-- The exported run, reedtassel_run of docs/c-interface.md: it returns how the run on bytes ended, and leaves what that leaves.
 use Prim.Native.Nat.{ℕ}
 use mathlib.Core.Path.{_≡_}
 use mathlib.Core.List.{List}

@@ -1,6 +1,6 @@
--- A run whose registers, uniforms and special registers are lent as little-endian bytes: what it returns and leaves is what the run on
--- the words that the bytes spell answers and leaves, with the answer as 24 bytes. Refusal 1 is also for a length that is no multiple of
--- four, and for an answer that has no room; then nothing is written.
+-- A run whose registers, uniforms and special registers are lent as little-endian bytes, as docs/c-interface.md describes it: it ends and
+-- leaves what the run on the words that the bytes spell does, with the answer as 24 bytes. Refusal 1 is also for a length that is no
+-- multiple of four, and for an answer that has no room; then nothing is written.
 use Prim.Native.Nat.{ℕ, _%_}
 use mathlib.Core.Path.{_≡_}
 use mathlib.Core.Bool.{Bool, cond}
