@@ -1,10 +1,10 @@
 -- The byte form of an instruction, as docs/byte-form.md lays it out: 48 bytes, numbers little-endian.
 use Prim.Native.Nat.{ℕ, _+_, _*_, _-_}
 use mathlib.Core.Bool.{cond, _&&_}
-use mathlib.Core.List.{List, [], _∷_, _++_}
+use mathlib.Core.List.{List, [], _∷_}
 use lib.Dec.{eqb, ltb}
 use lib.ListN.{getD, length, take, drop}
-use Rattle.bits.specs.Word.{le, bytesOf}
+use Rattle.bits.specs.Word.{le}
 use Rattle.isa.specs.declared.operand.Destination.{Destination}
 use Rattle.isa.specs.declared.operand.Source.{Source}
 use Rattle.isa.specs.declared.operand.Hint.{Hint}
@@ -20,32 +20,11 @@ use Rattle.isa.specs.declared.instruction.Scan.{Scan}
 use Rattle.isa.specs.declared.instruction.Compare.{Compare}
 use Rattle.isa.specs.declared.instruction.Instruction.{Instruction}
 use Rattle.parts.specs.Parts.{partsOf, lengthFor, eqList}
+use Rattle.layout.specs.Lay.{layWith}
 use Rattle.form.specs.declared.Spelled.{Spelled}
-use Rattle.parts.specs.declared.Slot.{Slot}
 use Rattle.parts.specs.declared.Parts.{Parts}
 
 -- ---- from the parts to bytes
-
-abbrev pub slotBytes : Slot → List ℕ
-slotBytes s = s .kind ∷ s .hint ∷ bytesOf 2 (s .number)
-
--- the parts, and the length n of the encoding
-abbrev pub layWith : Parts → ℕ → List ℕ
-layWith p n =
-    -- 0: kind, length, l, m
-    (p .kind ∷ n ∷ p .l ∷ p .m ∷ [])
-    -- 4: d, a, b, c
-    ++ slotBytes (p .d) ++ slotBytes (p .a) ++ slotBytes (p .b) ++ slotBytes (p .c)
-    -- 20: immediate
-    ++ bytesOf 4 (p .immediate)
-    -- 24: saturate, negate, the signs of a, b, c, shift
-    ++ (p .signs .saturate ∷ p .signs .negate ∷ p .signs .sa ∷ p .signs .sb ∷ p .signs .sc ∷ p .signs .shift ∷ [])
-    -- 30: the truth table
-    ++ (p .truth .tt0 ∷ p .truth .tt1 ∷ p .truth .tt2 ∷ p .truth .tt3 ∷ [])
-    -- 34: cc, ccn, n, and three reserved bytes
-    ++ (p .condition .cc ∷ p .condition .ccn ∷ p .condition .n ∷ 0 ∷ 0 ∷ 0 ∷ [])
-    -- 40: kept
-    ++ bytesOf 8 (p .kept)
 
 abbrev pub layOut : Parts → List ℕ
 layOut p = layWith p (lengthFor p)

@@ -4,12 +4,11 @@ ghost use lib.ListN.{length};
 ghost use Rattle.parts.specs.Parts.{eqList};
 ghost use Rattle.form.specs.Form.{formOf, spelledOf};
 
-mod lay;
 mod read;
 
-use crate::lay::lay_out;
 use crate::read::instruction_from;
 use isa::instruction::Instruction;
+use layout::lay_out;
 use parts::length_of;
 use parts::parts_of;
 

@@ -1,6 +1,7 @@
 use mathlib.Core.Path.{_≡_, ap, ap₂, _∙_}
 use Rattle.parts.specs.Parts.{lengthFor}
-use Rattle.form.specs.Form.{layWith, formOf, spelledOf}
+use Rattle.form.specs.Form.{formOf, spelledOf}
+use Rattle.layout.specs.Lay.{layWith}
 use Rattle.form.proofs.Typed.{instruction-fits}
 use Rattle.form.proofs.Form.{form-spelled}
 use borrow.Author.Needs.{needs}

@@ -1,6 +1,6 @@
 // Laying out the parts of an instruction as bytes.
 ghost use mathlib.Core.Path.{_≡_};
-ghost use Rattle.form.specs.Form.{layWith};
+ghost use Rattle.layout.specs.Lay.{layWith};
 use parts::Parts;
 
 // The 48 bytes in the order of docs/byte-form.md; n is the length of the encoding.
