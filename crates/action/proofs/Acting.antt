@@ -13,10 +13,11 @@ use Rattle.isa.specs.declared.instruction.Instruction.{Instruction}
 use Rattle.machine.specs.Words.{destinationSize, sourceSize, inputSize}
 use Rattle.machine.specs.Meaning.{meaningOf, none, input, size}
 use Rattle.machine.specs.declared.input.Input.{Input}
-use Rattle.action.specs.Operation.{Sizes, sizes, anySizes, sizesBy, Sized, SizedBy}
-use Rattle.action.specs.Action.{meaningBy, Fitting, FittingBy, Narrow, Acts, writesBy, sumFor, productFor}
-use Rattle.action.specs.declared.operation.Operation.{Operation}
-use Rattle.action.specs.declared.Action.{Action}
+use Rattle.operations.specs.Operation.{Sizes, sizes, anySizes, sizesBy, Sized, SizedBy}
+use Rattle.action.specs.Acts.{Narrow, Acts, writesBy, sumFor, productFor}
+use Rattle.operations.specs.Action.{meaningBy, Fitting, FittingBy}
+use Rattle.operations.specs.declared.Operation.{Operation}
+use Rattle.operations.specs.declared.action.Action.{Action}
 
 -- ---- sizes
 

@@ -9,7 +9,7 @@ use Rattle.bits.specs.Word.{le}
 use Rattle.isa.specs.Operand.{uniformOf, sourceOf}
 use Rattle.isa.specs.Rows.{rows}
 use Rattle.isa.specs.Decode.{readAt, decodeOf}
-use Rattle.isa.specs.Place.{placeOf}
+use Rattle.isa.specs.Parts.{partsOf, placeOf}
 use Rattle.isa.specs.declared.operand.Src.{Src}
 use Rattle.isa.specs.declared.operand.Ternary.{Ternary}
 use Rattle.isa.specs.declared.operand.ReadSrc.{ReadSrc}
@@ -21,7 +21,7 @@ use Rattle.isa.proofs.Found.{Lent, found-lent}
 use Rattle.isa.proofs.Placed.{read-place}
 use Rattle.isa.proofs.WasRead.{Reads, is-reads, on-ternary, of-ternary}
 use Rattle.machine.specs.Words.{sourceSize}
-use Rattle.action.specs.Action.{Narrow}
+use Rattle.action.specs.Acts.{Narrow}
 
 -- ---- a source in a place that does not take 64 bits
 
@@ -69,6 +69,7 @@ imadd-narrow w =
 -- ---- what was decoded
 
 narrow-at : (p w : ℕ) → p < 22 → (i : Instruction) → readAt p w ≡ Reading.Is i → Narrow i
+unfolding partsOf
 narrow-at p w h i e = record {
   factors = λ o S N As Bs Cs shift kept q.
     let k : 4 ≡ p = ap placeOf (sym q) ∙ read-place p w h i e in

@@ -1,34 +1,13 @@
 // An instruction as what it reads, what it computes and what it writes.
-ghost use Rattle.action.specs.Action.{Acts, Narrow};
+ghost use Rattle.action.specs.Acts.{Acts, Narrow};
 
 mod acts;
-pub mod operation;
 
-use crate::operation::Operation;
-use crate::operation::Truth;
 use isa::instruction::Instruction;
-use isa::operand::Destination;
 use machine::input::Input;
-
-// Data instructions write a destination, mask instructions work on r0l and the mask, jumps change the address.
-pub enum Action {
-    Writes {
-        d: Destination,
-        a: Input,
-        b: Input,
-        c: Input,
-        operation: Operation,
-    },
-    Masks {
-        a: Input,
-        b: Input,
-        operation: Operation,
-    },
-    Jumps {
-        any: bool,
-        off: u32,
-    },
-}
+use operations::Operation;
+use operations::Truth;
+use operations::action::Action;
 
 pub fn action_of(i: Instruction) -> Action
     requires { ⌜ Narrow i ⌝ }

@@ -3,13 +3,13 @@ ghost use mathlib.Core.Path.{_≡_};
 ghost use lib.ListN.{length};
 ghost use Rattle.machine.specs.Integer.{modulo};
 ghost use Rattle.machine.specs.Lanes.{tab};
-ghost use Rattle.action.specs.Operation.{resultBy, SizedBy, Within, WithinAll};
+ghost use Rattle.operations.specs.Operation.{resultBy, SizedBy, ValuesWithin, ValuesWithinAll};
 ghost use Rattle.alu.specs.Results.{resultAt};
-use action::operation::Operation;
+use operations::Operation;
 
 // For one thread.
 fn result(operation: Operation, a: u64, b: u64, c: u64) -> u64
-    requires { ⌜ SizedBy operation × Within operation a b c ⌝ }
+    requires { ⌜ SizedBy operation × ValuesWithin operation a b c ⌝ }
     ensures { λ r. ⌜ r ≡ modulo (resultBy operation a b c) 64 ⌝ }
 {
     match operation {
@@ -36,7 +36,7 @@ fn result(operation: Operation, a: u64, b: u64, c: u64) -> u64
 }
 
 pub fn results(operation: Operation, sources: &[[u64; 32]; 3], out: &mut [u64; 32])
-    requires { ⌜ (length (now out) ≡ 32) × SizedBy operation × WithinAll operation (now sources) ⌝ }
+    requires { ⌜ (length (now out) ≡ 32) × SizedBy operation × ValuesWithinAll operation (now sources) ⌝ }
     ensures { λ _. ⌜ now (out .exit) ≡ tab 32 (resultAt operation (now (sources .entry))) ⌝ }
 {
     let mut t = 0;

@@ -6,7 +6,7 @@ ghost use lib.Bits.{bitAnd, bitOr};
 ghost use Rattle.machine.specs.Integer.{modulo};
 ghost use Rattle.machine.specs.Meaning as meaning;
 ghost use Rattle.bitwise.specs.Truths.{isUndefined};
-use action::operation::Truth;
+use operations::Truth;
 
 // The tables of b and of its complement: the document leaves them undefined, and the result is a.
 fn undefined(o: Truth) -> bool

@@ -1,5 +1,5 @@
 -- From what the functions on the word answer to what the bytes decode to.
-use mathlib.Core.Path.{_≡_, sym, ap, ap₂, _∙_, subst}
+use mathlib.Core.Path.{_≡_, sym, ap, ap₂, _∙_}
 use mathlib.Core.Bool.{false}
 use mathlib.Core.List.{List}
 use Prim.Native.Nat.{ℕ, _*_, _<_, min}
@@ -12,21 +12,15 @@ use Rattle.isa.specs.Find.{forms, findOf}
 use Rattle.isa.specs.Decode.{readAt, decodedOf, readFound, decodeOf}
 use Rattle.isa.specs.declared.answer.Find.{Find}
 use Rattle.isa.specs.declared.answer.Reading.{Reading}
-use Rattle.decode.specs.First.{firstOf, Within}
-use Rattle.decode.proofs.First.{first-is-found}
-
-pub within : (f : Find) (p n : ℕ) → Within f → f ≡ Find.At p n → (p < 22) × (n < 9)
-within f p n h e = subst Within e h
+use Rattle.finding.specs.First.{firstOf}
+use Rattle.finding.proofs.Found.{found}
 
 module _ (s : List ℕ) (hs : Bytes s) (w n : ℕ) (f : Find) (ew : w ≡ wordOf s) (en : n ≡ min 8 (length s))
   (ef : f ≡ firstOf forms false w n) where
 
-  pub found : f ≡ findOf s
-  found = ef ∙ ap₂ (λ (x y : ℕ). firstOf forms false x y) ew en ∙ first-is-found s hs
-
   pub decoded : (g : Find) → f ≡ g → readFound g s ≡ decodeOf s
   unfolding decodeOf
-  decoded g e = ap (λ (x : Find). readFound x s) (sym e ∙ found)
+  decoded g e = ap (λ (x : Find). readFound x s) (sym e ∙ found s hs w n f ew en ef)
 
   -- the word cut to the bytes that were found is read
   pub decoded-at : (p m o : ℕ) (r : Reading) → f ≡ Find.At p m → m < 9 → o ≡ ones m → r ≡ readAt p (bitAnd w o) → decodedOf r m ≡ decodeOf s

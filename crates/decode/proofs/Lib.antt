@@ -1,5 +1,1 @@
-pub mod Forms
-pub mod First
-pub mod Steps
 pub mod Decoding
-pub mod Agreed

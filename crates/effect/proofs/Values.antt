@@ -10,9 +10,9 @@ use Rattle.machine.specs.Words.{inputSize}
 use Rattle.machine.specs.State.{threadsAt}
 use Rattle.machine.specs.Step.{sourceAt, r0l, writeAll, maskAll}
 use Rattle.machine.specs.declared.input.Input.{Input}
-use Rattle.action.specs.Operation.{resultBy, sizesBy, WithinAll}
-use Rattle.action.specs.Action.{Fitting}
-use Rattle.action.specs.declared.operation.Operation.{Operation}
+use Rattle.operations.specs.Operation.{resultBy, sizesBy, ValuesWithinAll}
+use Rattle.operations.specs.Action.{Fitting}
+use Rattle.operations.specs.declared.Operation.{Operation}
 use Rattle.alu.specs.Results.{resultAt}
 use Rattle.lanes.specs.Sources.{Bounded}
 use Rattle.lanes.specs.Results.{storeLane, zeroAt}
@@ -21,7 +21,7 @@ use Rattle.lanes.proofs.Columns.{write-all, mask-registers, mask-bits}
 below : (x size most : ℕ) → x < 2 ^ size → size ≤ most → x < 2 ^ most
 below x size most h k = lt-of-lt-of-le h (pow-mono k)
 
-pub within-all : (o : Operation) (x y z : Input) (sources : List (List ℕ)) → Fitting o x y z → Bounded sources x y z → WithinAll o sources
+pub within-all : (o : Operation) (x y z : Input) (sources : List (List ℕ)) → Fitting o x y z → Bounded sources x y z → ValuesWithinAll o sources
 within-all o x y z sources f b t h = record {
   a = below (sourceAt sources 0 t) (inputSize x) (sizesBy o .a) (b .a t h) (f .a);
   b = below (sourceAt sources 1 t) (inputSize y) (sizesBy o .b) (b .b t h) (f .b);

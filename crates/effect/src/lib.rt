@@ -5,12 +5,12 @@ ghost use lib.ListN.{length};
 ghost use Rattle.machine.specs.Words.{destinationReach};
 ghost use Rattle.machine.specs.State.{threadsAt};
 ghost use Rattle.machine.specs.Step.{gatherOf, ownR0l, writeAll, maskAll, threadsAfter, registersReach, specialsReach};
-ghost use Rattle.action.specs.Operation.{resultBy};
-ghost use Rattle.action.specs.Action.{meaningBy, Fitting, FittingBy};
+ghost use Rattle.operations.specs.Operation.{resultBy};
+ghost use Rattle.operations.specs.Action.{meaningBy, Fitting, FittingBy};
 ghost use Rattle.lanes.specs.Sources.{lent, Reached};
 
-use action::Action;
-use action::operation::Operation;
+use operations::action::Action;
+use operations::Operation;
 use isa::operand::Destination;
 use isa::operand::Hint;
 use isa::operand::Source;

@@ -14,10 +14,11 @@ use Rattle.isa.specs.Decode.{decodeOf}
 use Rattle.isa.specs.declared.answer.Decoded.{Decoded}
 use Rattle.isa.specs.declared.answer.Encoded.{Encoded}
 use Rattle.isa.specs.declared.instruction.Instruction.{Instruction}
-use Rattle.parts.specs.Parts.{partsOf, lengthFor, same}
-use Rattle.parts.specs.declared.Parts.{Parts}
+use Rattle.isa.specs.Parts.{partsOf, lengthFor, same}
+use Rattle.isa.specs.declared.parts.Parts.{Parts}
 use Rattle.writing.specs.Write.{wordFor}
-use Rattle.encode.specs.Encode.{lengthOf, bytesFor, isFound, accepts, answerBy, countOf, encodedOf, leftBy}
+use Rattle.encode.specs.Encode.{lengthOf, bytesFor, isFound, accepts, encodedOf, encodingLeft}
+use Rattle.answers.specs.Encoding.{answerBy, countOf}
 
 pub length-eight : (n w : ℕ) (bs : List ℕ) → bs ≡ bytesOf 8 w → n < 9 → length (take n bs) ≡ n
 length-eight n w bs e h = rw (e, take-bytes 8 n w (le-of-suc-le-suc h)) (length-bytesOf n w)
@@ -62,11 +63,11 @@ module _ (i : Instruction) (p : Parts) (n w : ℕ) (bs : List ℕ) (d : Decoded)
 
   -- n bytes are put, or none
   pub left : (out last : List ℕ) (k : ℕ) (a : Encoded) → a ≡ answerBy t n (length out) → k ≡ countOf a → last ≡ sets out 0 (take k bs)
-      → last ≡ leftBy i out
-  unfolding leftBy
+      → last ≡ encodingLeft i out
+  unfolding encodingLeft
   left out last k a ea ek l = go t test (leb n (length out)) refl (ek ∙ ap countOf ea)
     where
-      go : (u : Bool) → u ≡ accepts i → (b : Bool) → leb n (length out) ≡ b → k ≡ countOf (answerBy u n (length out)) → last ≡ leftBy i out
+      go : (u : Bool) → u ≡ accepts i → (b : Bool) → leb n (length out) ≡ b → k ≡ countOf (answerBy u n (length out)) → last ≡ encodingLeft i out
       go true eu true z e =
           let f : k ≡ n = rw z at e in
           let y : leb (lengthOf i) (length out) ≡ true = ap (λ (m : ℕ). leb m (length out)) (sym en) ∙ z in

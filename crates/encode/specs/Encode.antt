@@ -11,10 +11,11 @@ use Rattle.isa.specs.declared.answer.Refusal.{Refusal}
 use Rattle.isa.specs.declared.answer.Decoded.{Decoded}
 use Rattle.isa.specs.declared.answer.Encoded.{Encoded}
 use Rattle.isa.specs.declared.instruction.Instruction.{Instruction}
-use Rattle.parts.specs.Parts.{partsOf, lengthFor, same}
+use Rattle.isa.specs.Parts.{partsOf, lengthFor, same}
 use Rattle.writing.specs.Write.{wordFor}
 use Rattle.form.specs.Form.{spelledOf}
 use Rattle.form.specs.declared.Spelled.{Spelled}
+use Rattle.answers.specs.Encoding.{answerBy}
 
 abbrev pub lengthOf : Instruction → ℕ
 lengthOf i = lengthFor (partsOf i)
@@ -32,22 +33,12 @@ isFound (Decoded.Refused r) i n = false
 unfoldable pub accepts : Instruction → Bool
 accepts i = isFound (decodeOf (bytesFor i)) i (lengthOf i)
 
--- 8 before 9
-abbrev pub answerBy : Bool → ℕ → ℕ → Encoded
-answerBy accepted n room =
-    cond accepted (cond (leb n room) (Encoded.Wrote n) (Encoded.Refused Refusal.ShortBuffer)) (Encoded.Refused Refusal.NoEncoding)
-
--- the number of bytes written
-abbrev pub countOf : Encoded → ℕ
-countOf (Encoded.Wrote n) = n
-countOf (Encoded.Refused r) = 0
-
 unfoldable pub encodedOf : Instruction → List ℕ → Encoded
 encodedOf i out = answerBy (accepts i) (lengthOf i) (length out)
 
 -- the encoding's bytes and none after them
-unfoldable pub leftBy : Instruction → List ℕ → List ℕ
-leftBy i out = cond (accepts i && leb (lengthOf i) (length out)) (bytesFor i ++ drop (lengthOf i) out) out
+unfoldable pub encodingLeft : Instruction → List ℕ → List ℕ
+encodingLeft i out = cond (accepts i && leb (lengthOf i) (length out)) (bytesFor i ++ drop (lengthOf i) out) out
 
 -- ---- from the byte form: bytes that spell no instruction get 8
 
@@ -56,7 +47,7 @@ encodedSpelled (Spelled.Is i) out = encodedOf i out
 encodedSpelled Spelled.None out = Encoded.Refused Refusal.NoEncoding
 
 abbrev pub leftSpelled : Spelled → List ℕ → List ℕ
-leftSpelled (Spelled.Is i) out = leftBy i out
+leftSpelled (Spelled.Is i) out = encodingLeft i out
 leftSpelled Spelled.None out = out
 
 abbrev pub encodedFrom : List ℕ → List ℕ → Encoded

@@ -1,7 +1,8 @@
 // Encoding one instruction: its word is put together, decoded again, and compared with what was given.
 ghost use mathlib.Core.Path.{_≡_};
-ghost use Rattle.encode.specs.Encode.{isFound, answerBy, countOf, encodedOf, leftBy, encodedFrom, leftFrom};
+ghost use Rattle.encode.specs.Encode.{isFound, encodedOf, encodingLeft, encodedFrom, leftFrom};
 
+use answers::encoding;
 use bits::piece;
 use form::Spelled;
 use isa::answer::Decoded;
@@ -24,37 +25,14 @@ fn is_found(d: Decoded, i: Instruction, n: usize) -> bool
     }
 }
 
-// 8 before 9.
-fn answer(accepted: bool, n: usize, room: usize) -> Encoded
-    ensures { λ r. ⌜ r ≡ answerBy accepted n room ⌝ }
-{
-    if accepted {
-        if n <= room {
-            return Encoded::Wrote(n);
-        }
-        return Encoded::Refused(Refusal::ShortBuffer);
-    }
-    Encoded::Refused(Refusal::NoEncoding)
-}
-
-// How many bytes are written under an answer.
-fn written(a: Encoded) -> usize
-    ensures { λ r. ⌜ r ≡ countOf a ⌝ }
-{
-    match a {
-        Encoded::Wrote(n) => n,
-        Encoded::Refused(_) => 0,
-    }
-}
-
 // Writes the instruction's bytes at the start of the buffer, and answers their number. Refused, it writes nothing.
 pub fn encode(i: Instruction, out: &mut [u8]) -> Encoded
-    ensures { λ r. ⌜ (r ≡ encodedOf i (now (out .entry))) × (now (out .exit) ≡ leftBy i (now (out .entry))) ⌝ }
+    ensures { λ r. ⌜ (r ≡ encodedOf i (now (out .entry))) × (now (out .exit) ≡ encodingLeft i (now (out .entry))) ⌝ }
 {
-    let n = parts::length_of(parts::parts_of(i));
+    let n = numbers::length_of(parts::parts_of(i));
     let b = bits::bytes_of(writing::word_for(i));
-    let a = answer(is_found(decode::decode(&b[..n]), i, n), n, out.len());
-    let k = written(a);
+    let a = encoding::answer(is_found(decode::decode(&b[..n]), i, n), n, out.len());
+    let k = encoding::written(a);
     piece::put(out, 0, &b[..k]);
     a
 }

@@ -1,8 +1,7 @@
 -- Shifts by any amount, and the mask of a bit field.
 use mathlib.Core.Path.{_≡_, sym, ap, _∙_}
 use Prim.Native.Nat.{ℕ, _+_, _*_, _-_, _/_, _%_, _^_, _≤_, _<_}
-use native.Mathlib.Nat.{mod-eq-of-lt, mul-add-mod-self-right, mul-mod-left, mul-assoc, div-eq-of-lt}
-use native.Mathlib.Nat.{lt-of-lt-of-le, lt-of-le-of-lt}
+use native.Mathlib.Nat.{mod-eq-of-lt, mul-add-mod-self-right, mul-mod-left, mul-assoc, div-eq-of-lt, lt-of-lt-of-le, lt-of-le-of-lt}
 use native.Mathlib.Omega.{arith}
 use lib.Pow.{pow-pos, pow-add, pow-mono, pow-lt, shl-shr, shr-shr, shr-le, split, low, ones-lt, ones-split}
 

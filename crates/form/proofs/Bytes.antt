@@ -14,15 +14,14 @@ use Rattle.isa.specs.declared.operand.Binary.{Binary}
 use Rattle.isa.specs.declared.operand.Ternary.{Ternary}
 use Rattle.isa.specs.declared.instruction.Compare.{Compare}
 use Rattle.isa.specs.declared.instruction.Instruction.{Instruction}
-use Rattle.parts.specs.declared.Slot.{Slot}
-use Rattle.parts.specs.declared.Signs.{Signs}
-use Rattle.parts.specs.declared.Truth.{Truth}
-use Rattle.parts.specs.declared.Condition.{Condition}
-use Rattle.parts.specs.declared.Parts.{Parts}
-use Rattle.parts.specs.Parts.{hintNumber, destinationSlot, sourceSlot, dstSlot, srcSlot, noSlot, noSigns, noTruth, noCondition}
-use Rattle.parts.specs.Parts.{signsOf, truthOf, conditionOf, ofDst, ofUnary, ofBinary, ofTernary, ofJump, ofPop, ofCompare}
-use Rattle.parts.specs.Parts.{partsOf, lengthFor}
-use Rattle.parts.proofs.Length.{length-for}
+use Rattle.isa.specs.declared.parts.Slot.{Slot}
+use Rattle.isa.specs.declared.parts.Signs.{Signs}
+use Rattle.isa.specs.declared.parts.Truth.{Truth}
+use Rattle.isa.specs.declared.parts.Condition.{Condition}
+use Rattle.isa.specs.declared.parts.Parts.{Parts}
+use Rattle.isa.specs.Parts.{hintNumber, destinationSlot, sourceSlot, dstSlot, srcSlot, noSlot, noSigns, noTruth, noCondition}
+use Rattle.isa.specs.Parts.{signsOf, truthOf, conditionOf, ofDst, ofUnary, ofBinary, ofTernary, ofJump, ofPop, ofCompare, partsOf, lengthFor}
+use Rattle.numbers.proofs.Length.{length-for}
 use Rattle.form.specs.Form.{layOut, formOf}
 use Rattle.form.specs.Fits.{U8, Fits}
 

@@ -12,8 +12,9 @@ use Rattle.isa.specs.declared.operand.Source.{Source}
 use Rattle.isa.specs.declared.operand.Hint.{Hint}
 use Rattle.isa.specs.declared.instruction.Instruction.{Instruction}
 use Rattle.isa.specs.declared.answer.Decoded.{Decoded}
-use Rattle.parts.specs.Parts.{partsOf, lengthFor}
-use Rattle.form.specs.Form.{formOf, instructionFrom, spelledOf}
+use Rattle.isa.specs.Parts.{partsOf, lengthFor}
+use Rattle.form.specs.Form.{formOf, spelledOf}
+use Rattle.formread.specs.Read.{instructionFrom}
 use Rattle.form.specs.declared.Spelled.{Spelled}
 
 -- mov16 of 1234 hex to r1l, in the long form with every "?" bit set

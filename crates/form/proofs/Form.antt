@@ -8,11 +8,12 @@ use lib.Dec.{eqb, ltb}
 use lib.ListN.{length}
 use borrow.Author.Tests.{lt-ltb}
 use Rattle.isa.specs.declared.instruction.Instruction.{Instruction}
-use Rattle.isa.proofs.Placed.{place-below}
-use Rattle.parts.specs.Parts.{partsOf, eqList}
-use Rattle.parts.proofs.Lists.{eqList-is, eqList-self}
-use Rattle.parts.proofs.Kind.{kind-of}
-use Rattle.form.specs.Form.{at, formOf, instructionFrom, spelledBy, spelledOf}
+use Rattle.isa.proofs.Placed.{kind-within}
+use Rattle.isa.specs.Parts.{partsOf}
+use Rattle.bits.specs.Lists.{eqList}
+use Rattle.bits.proofs.Lists.{eqList-is, eqList-self}
+use Rattle.form.specs.Form.{formOf, spelledBy, spelledOf}
+use Rattle.formread.specs.Read.{at, instructionFrom}
 use Rattle.form.specs.Fits.{Fits}
 use Rattle.form.specs.declared.Spelled.{Spelled}
 use Rattle.form.proofs.Back.{instruction-back}
@@ -43,8 +44,8 @@ spelled-form b i e =
 pub form-spelled : (i : Instruction) → Fits i → spelledOf (formOf i) ≡ Spelled.Is i
 unfolding spelledOf
 form-spelled i f =
-    let l : 0 < partsOf i .kind = omega (arith, kind-of i) in
-    let u : partsOf i .kind < 23 = omega (arith, kind-of i, place-below i) in
+    let l = kind-within i .0 in
+    let u = kind-within i .1 in
     rw (lt-ltb _ _ l, lt-ltb _ _ u, instruction-back i f, eqList-self (formOf i))
 
 pub one-form : (i j : Instruction) → Fits i → Fits j → formOf i ≡ formOf j → i ≡ j

@@ -4,4 +4,3 @@ pub mod Examples
 pub mod Typed
 pub mod Back
 pub mod Spelling
-pub mod Reading

@@ -7,8 +7,9 @@ use native.Mathlib.Omega.{arith}
 use lib.ListN.{length}
 use borrow.Author.Tests.{eq-eqb, ne-eqb, lt-ltb, le-ltb}
 use Rattle.isa.specs.declared.instruction.Instruction.{Instruction}
-use Rattle.parts.specs.Parts.{eqList}
-use Rattle.form.specs.Form.{at, formOf, instructionFrom, spelledBy, spelledOf}
+use Rattle.bits.specs.Lists.{eqList}
+use Rattle.form.specs.Form.{formOf, spelledBy, spelledOf}
+use Rattle.formread.specs.Read.{at, instructionFrom}
 use Rattle.form.specs.declared.Spelled.{Spelled}
 
 module _ (b : List ℕ) where

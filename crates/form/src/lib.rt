@@ -1,15 +1,14 @@
 // The byte form of an instruction: 48 bytes for callers in other languages. docs/byte-form.md has the layout.
 ghost use mathlib.Core.Path.{_≡_};
 ghost use lib.ListN.{length};
-ghost use Rattle.parts.specs.Parts.{eqList};
+ghost use Rattle.bits.specs.Lists.{eqList};
 ghost use Rattle.form.specs.Form.{formOf, spelledOf};
 
-mod read;
-
-use crate::read::instruction_from;
+use bits::equal;
+use formread::instruction_from;
 use isa::instruction::Instruction;
 use layout::lay_out;
-use parts::length_of;
+use numbers::length_of;
 use parts::parts_of;
 
 // What bytes spell: an instruction, or none.
@@ -25,20 +24,6 @@ pub fn to_bytes(i: Instruction) -> [u8; 48]
     let p = parts_of(i);
     let n = length_of(p);
     lay_out(p, n as u8)
-}
-
-fn equal(a: &[u8], b: &[u8]) -> bool
-    requires { ⌜ length (now a) ≡ length (now b) ⌝ }
-    ensures { λ r. ⌜ r ≡ eqList (now (a .entry)) (now (b .entry)) ⌝ }
-{
-    let mut i = 0;
-    while i < a.len() {
-        if a[i] != b[i] {
-            return false;
-        }
-        i += 1;
-    }
-    true
 }
 
 // The instruction that bytes spell: they must be its byte form, and nothing else.
@@ -57,7 +42,7 @@ pub fn from_bytes(b: &[u8]) -> Spelled
     }
     let i = instruction_from(kind, b);
     let f = to_bytes(i);
-    if equal(&f, b) {
+    if equal::bytes(&f, b) {
         Spelled::Is(i)
     } else {
         Spelled::None

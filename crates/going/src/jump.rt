@@ -4,7 +4,7 @@ ghost use Prim.Native.Nat.{_<_, _^_};
 ghost use lib.IntN.{pos, _+ℤ_};
 ghost use Rattle.machine.specs.Integer.{signExtend};
 ghost use Rattle.machine.specs.Step.{taken, landing};
-ghost use Rattle.going.specs.Place.{placeOf};
+ghost use Rattle.going.specs.AsGoing.{asGoing};
 use crate::Going;
 use isa::answer::Refusal;
 
@@ -16,7 +16,7 @@ pub fn taken(any: bool, mask: u32) -> bool
 
 // An even target that is not above the code length.
 fn at(length: usize, target: usize) -> Going
-    ensures { λ r. ⌜ placeOf r ≡ landing length (pos target) ⌝ }
+    ensures { λ r. ⌜ asGoing r ≡ landing length (pos target) ⌝ }
 {
     if target % 2 != 0 {
         return Going::Nowhere(Refusal::BadTarget);
@@ -30,7 +30,7 @@ fn at(length: usize, target: usize) -> Going
 // The offset counts from the jump's first byte; from 2^31 on it is negative.
 pub fn landing(length: usize, address: usize, off: u32) -> Going
     requires { ⌜ address < 2 ^ 32 ⌝ }
-    ensures { λ r. ⌜ placeOf r ≡ landing length (pos address +ℤ signExtend off 32) ⌝ }
+    ensures { λ r. ⌜ asGoing r ≡ landing length (pos address +ℤ signExtend off 32) ⌝ }
 {
     let off = off as usize;
     if off < 0x80000000 {

@@ -3,13 +3,13 @@
 ghost use mathlib.Core.Path.{_≡_};
 ghost use Prim.Native.Nat.{_<_, _^_};
 ghost use Rattle.machine.specs.Step.{registersReach, specialsReach, goingOf};
-ghost use Rattle.action.specs.Action.{meaningBy};
-ghost use Rattle.going.specs.Place.{placeOf};
+ghost use Rattle.operations.specs.Action.{meaningBy};
+ghost use Rattle.going.specs.AsGoing.{asGoing};
 
 mod jump;
 mod reach;
 
-use action::Action;
+use operations::action::Action;
 use isa::answer::Refusal;
 
 // The address to go on at and the class of the step, or the refusal.
@@ -42,7 +42,7 @@ pub fn specials_reach(action: Action) -> usize
 
 pub fn goes_to(action: Action, length: usize, bytes: usize, address: usize, mask: u32) -> Going
     requires { ⌜ (address < 2 ^ 32) × (bytes < 2 ^ 32) ⌝ }
-    ensures { λ r. ⌜ placeOf r ≡ goingOf (meaningBy action) length bytes address mask ⌝ }
+    ensures { λ r. ⌜ asGoing r ≡ goingOf (meaningBy action) length bytes address mask ⌝ }
 {
     match action {
         Action::Writes { d: _, a: _, b: _, c: _, operation: _ } => Going::To(address + bytes, 1),

@@ -11,7 +11,7 @@ use borrow.Author.Tests.{eqb-true, leb-true}
 use Rattle.bits.specs.Word.{le, wordOf}
 use Rattle.bits.proofs.Laws.{Bytes, first-bytes}
 use Rattle.bits.proofs.Masks.{and-within}
-use Rattle.bits.proofs.Table.{all, left, right}
+use Rattle.bits.proofs.Table.{and-left, and-right, all, left, right}
 use Rattle.isa.specs.Rows.{rows}
 use Rattle.isa.specs.Find.{Form, forms, matches}
 
@@ -45,14 +45,6 @@ well-formed f t =
 pub all-well-formed : T (all wellFormed forms)
 unfolding rows forms
 all-well-formed = tt
-
-pub and-left : (a b : Bool) → (a && b) ≡ true → a ≡ true
-and-left true b e = refl
-and-left false b e = e
-
-pub and-right : (a b : Bool) → (a && b) ≡ true → b ≡ true
-and-right true b e = e
-and-right false b e = let z : _≡_ {A = ℕ} 0 1 = cc in absurd (omega arith)
 
 module _ (s : List ℕ) (hs : Bytes s) (f : Form) (lf : WellFormed f) where
   -- the fixed bits stand in the bytes of the form, so the word has them too

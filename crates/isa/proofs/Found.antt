@@ -9,14 +9,14 @@ use lib.Dec.{T}
 use lib.ListN.{length, getD}
 use borrow.Author.Tests.{leb-true}
 use Rattle.bits.proofs.Laws.{Bytes}
-use Rattle.bits.proofs.Table.{all-at}
+use Rattle.bits.proofs.Table.{all-at, and-left}
 use Rattle.isa.specs.Find.{Form, forms, matches, beats, bestOf, anyGoesOn, found, findOf}
 use Rattle.isa.specs.Decode.{decodeOf}
 use Rattle.isa.specs.declared.answer.Find.{Find}
 use Rattle.isa.specs.declared.answer.Decoded.{Decoded}
 use Rattle.isa.specs.declared.instruction.Instruction.{Instruction}
 use Rattle.isa.proofs.Cases.{cases}
-use Rattle.isa.proofs.Forms.{wellFormed, well-formed, all-well-formed, and-left}
+use Rattle.isa.proofs.Forms.{wellFormed, well-formed, all-well-formed}
 use Rattle.isa.proofs.Exclusive.{no-two-match}
 
 -- ---- the form that was found

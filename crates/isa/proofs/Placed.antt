@@ -1,5 +1,6 @@
 -- A decoded instruction is of the diagram that was found: its place in the list is the one that the finding rule answers.
 use mathlib.Core.Path.{_≡_, refl, sym, ap, ap₂, _∙_, subst}
+use mathlib.Core.Bool.{Bool, _&&_}
 use mathlib.Core.List.{List, [], _∷_}
 use Prim.Native.Nat.{ℕ, zero, suc, _+_, _≤_, _<_}
 use native.Mathlib.Nat.{le-of-suc-le-suc, not-suc-le-zero, add-zero, zero-add, add-suc, suc-add}
@@ -7,7 +8,7 @@ use native.Mathlib.Omega.{arith}
 use lib.Dec.{T, ltb, ltb→lt}
 use lib.ListN.{length, getD, take}
 use Rattle.bits.specs.Word.{le}
-use Rattle.bits.proofs.Table.{_&_}
+use Rattle.bits.proofs.Table.{_&_, left, right}
 use Rattle.isa.specs.Diagram.{Diagram, Fields, readBy}
 use Rattle.isa.specs.Together.{withDst, withUnary, withBinary, withTernary, withCompared, withCondition}
 use Rattle.isa.specs.Read.{bitfield, shift, scan, compare}
@@ -15,7 +16,7 @@ use Rattle.isa.specs.Rows.{rows}
 use Rattle.isa.specs.Refusal.{numberOf}
 use Rattle.isa.specs.Find.{findOf}
 use Rattle.isa.specs.Decode.{noDiagram, readAt, decodeOf}
-use Rattle.isa.specs.Place.{placeOf}
+use Rattle.isa.specs.Parts.{partsOf, placeOf}
 use Rattle.isa.specs.declared.operand.Dst.{Dst}
 use Rattle.isa.specs.declared.operand.Unary.{Unary}
 use Rattle.isa.specs.declared.operand.Binary.{Binary}
@@ -86,7 +87,7 @@ AllAt p [] = Unit {0}
 AllAt p (d ∷ ds) = ((f : Fields) (k : ℕ) → At p (d .read f k)) × AllAt (suc p) ds
 
 rows-at : AllAt 0 rows
-unfolding rows
+unfolding rows partsOf
 rows-at =
     (λ f k. dst-at 0 _ _ (λ d. is-at 0 _ refl))
     & (λ f k. dst-at 1 _ _ (λ d. is-at 1 _ refl))
@@ -127,33 +128,45 @@ read-place p w h i e =
     let r : At (0 + p) (readAt p w) = row-at rows 0 rows-at p (rw length-rows h) w in
     (rw (zero-add p) at r) .holds i e
 
+-- the kinds are 1 to 22
+pub kind-within : (i : Instruction) → (0 < partsOf i .kind) × (partsOf i .kind < 23)
+unfolding partsOf
+kind-within i =
+    (ltb→lt 0 (partsOf i .kind) (left above below (within i)), ltb→lt (partsOf i .kind) 23 (right above below (within i)))
+  where
+    above : Bool
+    above = ltb 0 (partsOf i .kind)
+
+    below : Bool
+    below = ltb (partsOf i .kind) 23
+
+    within : (i : Instruction) → T (ltb 0 (partsOf i .kind) && ltb (partsOf i .kind) 23)
+    within (Instruction.Mov16 a b c d) = tt
+    within (Instruction.Mov32 a b c d) = tt
+    within (Instruction.GetSr a b c) = tt
+    within (Instruction.Iadd a b c d e f g) = tt
+    within (Instruction.Imadd a b c d e f g h) = tt
+    within (Instruction.Bfi x) = tt
+    within (Instruction.Bfeil x) = tt
+    within (Instruction.Extr x) = tt
+    within (Instruction.Shlhi x) = tt
+    within (Instruction.Shrhi x) = tt
+    within (Instruction.Asr x) = tt
+    within (Instruction.Asrh x) = tt
+    within (Instruction.Bitop a b c d e f) = tt
+    within (Instruction.Bitrev x) = tt
+    within (Instruction.Popcount x) = tt
+    within (Instruction.Ffs x) = tt
+    within (Instruction.JmpExecAny x) = tt
+    within (Instruction.JmpExecNone x) = tt
+    within (Instruction.PopExec a b c) = tt
+    within (Instruction.IfIcmp x) = tt
+    within (Instruction.WhileIcmp x) = tt
+    within (Instruction.ElseIcmp x) = tt
+
 -- every instruction has a place in the list
 pub place-below : (i : Instruction) → placeOf i < 22
-place-below i = ltb→lt (placeOf i) 22 (below i)
-  where
-    below : (i : Instruction) → T (ltb (placeOf i) 22)
-    below (Instruction.Mov16 a b c d) = tt
-    below (Instruction.Mov32 a b c d) = tt
-    below (Instruction.GetSr a b c) = tt
-    below (Instruction.Iadd a b c d e f g) = tt
-    below (Instruction.Imadd a b c d e f g h) = tt
-    below (Instruction.Bfi x) = tt
-    below (Instruction.Bfeil x) = tt
-    below (Instruction.Extr x) = tt
-    below (Instruction.Shlhi x) = tt
-    below (Instruction.Shrhi x) = tt
-    below (Instruction.Asr x) = tt
-    below (Instruction.Asrh x) = tt
-    below (Instruction.Bitop a b c d e f) = tt
-    below (Instruction.Bitrev x) = tt
-    below (Instruction.Popcount x) = tt
-    below (Instruction.Ffs x) = tt
-    below (Instruction.JmpExecAny x) = tt
-    below (Instruction.JmpExecNone x) = tt
-    below (Instruction.PopExec a b c) = tt
-    below (Instruction.IfIcmp x) = tt
-    below (Instruction.WhileIcmp x) = tt
-    below (Instruction.ElseIcmp x) = tt
+place-below i = let k = kind-within i in omega arith
 
 -- what decodes to an instruction was found at the place of its diagram
 pub found-place : (s : List ℕ) (i : Instruction) (n : ℕ) → decodeOf s ≡ Decoded.Found i n → findOf s ≡ Find.At (placeOf i) n

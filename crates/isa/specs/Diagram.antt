@@ -89,12 +89,12 @@ abbrev pub binaryFrom : ℕ → List ℕ → ℕ
 binaryFrom n [] = n
 binaryFrom n (c ∷ cs) = binaryFrom (2 * n + (c - code "0")) cs
 
-abbrev pub binary : String → ℕ
-binary digits = binaryFrom 0 (ascii digits)
+abbrev pub binaryNumber : String → ℕ
+binaryNumber digits = binaryFrom 0 (ascii digits)
 
 abbrev pub fixedValue : List Fixed → ℕ
 fixedValue [] = 0
-fixedValue (f ∷ fs) = bitOr (binary (f .digits) * 2 ^ f .at .lo) (fixedValue fs)
+fixedValue (f ∷ fs) = bitOr (binaryNumber (f .digits) * 2 ^ f .at .lo) (fixedValue fs)
 
 abbrev pub fixedCount : List Fixed → ℕ
 fixedCount [] = 0

@@ -22,8 +22,8 @@ pub record Form : Type 0 where
   pub value : ℕ
   pub count : ℕ
 
-abbrev pub formOf : ℕ → Diagram → ℕ → ℕ → ℕ → Form
-formOf i d bytes mask value =
+abbrev pub diagramForm : ℕ → Diagram → ℕ → ℕ → ℕ → Form
+diagramForm i d bytes mask value =
     record {
       place = i;
       bytes = bytes;
@@ -40,8 +40,8 @@ absent bytes = cond (eqb bytes 12) 4 2
 abbrev pub formsBy : ℕ → ℕ → Diagram → List Form
 formsBy l i d =
     cond (eqb l 0)
-    (formOf i d (d .bytes) 0 0 ∷ [])
-    (formOf i d (d .bytes - absent (d .bytes)) l 0 ∷ formOf i d (d .bytes) l l ∷ [])
+    (diagramForm i d (d .bytes) 0 0 ∷ [])
+    (diagramForm i d (d .bytes - absent (d .bytes)) l 0 ∷ diagramForm i d (d .bytes) l l ∷ [])
 
 abbrev pub formsAt : ℕ → Diagram → List Form
 formsAt i d = formsBy (fieldMask (d .fields) "L") i d

@@ -8,4 +8,4 @@ pub mod Read
 pub mod Rows
 pub mod Find
 pub mod Decode
-pub mod Place
+pub mod Parts

@@ -3,3 +3,4 @@
 pub mod answer;
 pub mod instruction;
 pub mod operand;
+pub mod parts;

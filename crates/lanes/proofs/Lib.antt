@@ -2,5 +2,4 @@ pub mod Rows
 pub mod Halves
 pub mod Bounds
 pub mod Stores
-pub mod OneBit
 pub mod Columns

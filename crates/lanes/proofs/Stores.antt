@@ -3,6 +3,7 @@ use mathlib.Core.Path.{_≡_, refl, sym, ap, ap₂, _∙_}
 use mathlib.Core.Bool.{Bool, true, false, cond}
 use mathlib.Core.List.{List}
 use Prim.Native.Nat.{ℕ, zero, suc, _+_, _*_, _/_, _%_, _^_, _≤_, _<_}
+use native.Mathlib.Nat.{div-one}
 use native.Mathlib.Omega.{arith}
 use lib.ListN.{getD, set}
 use lib.Pow.{mod-mod-pow, field}
@@ -11,7 +12,7 @@ use Rattle.isa.specs.declared.operand.Destination.{Destination}
 use Rattle.machine.specs.Lanes.{tab, each, activeIn}
 use Rattle.machine.specs.Words.{withHalf, wordAt, storeOf}
 use Rattle.machine.proofs.Tab.{getD-tab, each-cong}
-use Rattle.lanes.specs.Results.{storeLane, storeAll, wordLane, lowOf, highOf, mergedAt}
+use Rattle.lanes.specs.Results.{storeLane, storeAll, wordLane, columnOf, mergedAt}
 
 -- ---- changes for each thread in turn
 
@@ -88,15 +89,19 @@ swap row row′ mask r r′ t u ne words =
 
 -- ---- the kinds of destination
 
+-- the column from bit 0 on has the low words
+low-is : (values : List ℕ) (t : ℕ) → t < 32 → getD (tab 32 (columnOf values 0)) t 0 ≡ getD values t 0 % 2 ^ 32
+low-is values t k = getD-tab 32 (columnOf values 0) t 0 k ∙ ap (λ (x : ℕ). x % 2 ^ 32) (div-one (getD values t 0))
+
 pub put-words : (values : List ℕ) (mask r : ℕ) (registers : List ℕ)
-    → each 32 (wordLane (tab 32 (lowOf values)) mask r) registers ≡ storeAll values mask (Destination.Register r) registers
+    → each 32 (wordLane (tab 32 (columnOf values 0)) mask r) registers ≡ storeAll values mask (Destination.Register r) registers
 unfolding storeLane storeOf
 put-words values mask r registers =
-    each-cong 32 (wordLane (tab 32 (lowOf values)) mask r) (storeLane values mask (Destination.Register r))
-    (λ t k words. lane (tab 32 (lowOf values)) mask r t (lowOf values t) words (getD-tab 32 (lowOf values) t 0 k)) registers
+    each-cong 32 (wordLane (tab 32 (columnOf values 0)) mask r) (storeLane values mask (Destination.Register r))
+    (λ t k words. lane (tab 32 (columnOf values 0)) mask r t (getD values t 0 % 2 ^ 32) words (low-is values t k)) registers
 
 pub put-halves : (values : List ℕ) (mask h : ℕ) (registers : List ℕ)
-    → each 32 (wordLane (tab 32 (mergedAt registers h (tab 32 (lowOf values)))) mask (h / 2)) registers
+    → each 32 (wordLane (tab 32 (mergedAt registers h (tab 32 (columnOf values 0)))) mask (h / 2)) registers
     ≡ storeAll values mask (Destination.Half h) registers
 unfolding storeLane storeOf
 put-halves values mask h registers =
@@ -106,17 +111,17 @@ put-halves values mask h registers =
     (each t (wordLane row mask (h / 2)) registers)
     (getD-tab 32 (mergedAt registers h low) t 0 k
     ∙ ap₂ (withHalf h)
-    (ap (λ (x : ℕ). x % 2 ^ 16) (getD-tab 32 (lowOf values) t 0 k) ∙ mod-mod-pow (getD values t 0) 16 16)
+    (ap (λ (x : ℕ). x % 2 ^ 16) (low-is values t k) ∙ mod-mod-pow (getD values t 0) 16 16)
     (sym (later row mask (h / 2) registers t t (omega arith)))))
   where
     low : List ℕ
-    low = tab 32 (lowOf values)
+    low = tab 32 (columnOf values 0)
 
     row : List ℕ
     row = tab 32 (mergedAt registers h low)
 
 pub put-pairs : (values : List ℕ) (mask r : ℕ) (registers : List ℕ)
-    → each 32 (wordLane (tab 32 (highOf values)) mask (r + 1)) (each 32 (wordLane (tab 32 (lowOf values)) mask r) registers)
+    → each 32 (wordLane (tab 32 (columnOf values 32)) mask (r + 1)) (each 32 (wordLane (tab 32 (columnOf values 0)) mask r) registers)
     ≡ storeAll values mask (Destination.Pair r) registers
 unfolding storeLane storeOf
 put-pairs values mask r registers =
@@ -126,10 +131,10 @@ put-pairs values mask r registers =
     (storeLane values mask (Destination.Pair r)) pair registers
   where
     low : List ℕ
-    low = tab 32 (lowOf values)
+    low = tab 32 (columnOf values 0)
 
     high : List ℕ
-    high = tab 32 (highOf values)
+    high = tab 32 (columnOf values 32)
 
     both : (on : Bool) (i j a a′ b b′ : ℕ) (words : List ℕ) → a ≡ a′ → b ≡ b′
         → cond on (set (cond on (set words i a) words) j b) (cond on (set words i a) words)
@@ -140,9 +145,9 @@ put-pairs values mask r registers =
     pair : (t : ℕ) → t < 32 → (words : List ℕ)
         → wordLane high mask (r + 1) t (wordLane low mask r t words) ≡ storeLane values mask (Destination.Pair r) t words
     pair t k words =
-        ap (wordLane high mask (r + 1) t) (lane low mask r t (lowOf values t) words (getD-tab 32 (lowOf values) t 0 k))
-        ∙ lane high mask (r + 1) t (highOf values t) (cond (activeIn mask t) (set words (32 * r + t) (lowOf values t)) words)
-        (getD-tab 32 (highOf values) t 0 k)
-        ∙ both (activeIn mask t) (32 * r + t) (32 * (r + 1) + t) (lowOf values t) (getD values t 0 % 2 ^ 64 % 2 ^ 32)
-        (highOf values t) (getD values t 0 % 2 ^ 64 / 2 ^ 32) words
+        ap (wordLane high mask (r + 1) t) (lane low mask r t (getD values t 0 % 2 ^ 32) words (low-is values t k))
+        ∙ lane high mask (r + 1) t (columnOf values 32 t) (cond (activeIn mask t) (set words (32 * r + t) (getD values t 0 % 2 ^ 32)) words)
+        (getD-tab 32 (columnOf values 32) t 0 k)
+        ∙ both (activeIn mask t) (32 * r + t) (32 * (r + 1) + t) (getD values t 0 % 2 ^ 32) (getD values t 0 % 2 ^ 64 % 2 ^ 32)
+        (columnOf values 32 t) (getD values t 0 % 2 ^ 64 / 2 ^ 32) words
         (sym (mod-mod-pow (getD values t 0) 32 32)) (sym (field (getD values t 0) 32 32))

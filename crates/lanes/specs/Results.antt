@@ -22,11 +22,9 @@ zeroAt values t = eqb (getD values t 0 % 2 ^ 16) 0
 
 -- ---- rows of words that are to be written
 
-abbrev pub lowOf : List ℕ → ℕ → ℕ
-lowOf values t = getD values t 0 % 2 ^ 32
-
-abbrev pub highOf : List ℕ → ℕ → ℕ
-highOf values t = getD values t 0 / 2 ^ 32 % 2 ^ 32
+-- the 32 bits of a value from the bit k on
+abbrev pub columnOf : List ℕ → ℕ → ℕ → ℕ
+columnOf values k t = getD values t 0 / 2 ^ k % 2 ^ 32
 
 -- the register's word, with the value for half h
 abbrev pub mergedAt : List ℕ → ℕ → List ℕ → ℕ → ℕ

@@ -7,28 +7,8 @@ ghost use Rattle.machine.specs.Lanes.{tab};
 ghost use Rattle.machine.specs.Words.{halfOf, pairOf, wordAt, sourceValue, valueOf, sourceSize, inputSize, sourceReach};
 ghost use Rattle.machine.specs.Step.{gatherOf};
 ghost use Rattle.lanes.specs.Sources.{Row, Bounded, Reached, halfAt, pairAt, lent};
-use crate::register;
 use isa::operand::Source;
 use machine::input::Input;
-
-fn wide(x: u32) -> u64
-    ensures { λ r. ⌜ r ≡ x ⌝ }
-{
-    x as u64
-}
-
-fn part(word: u32, place: u32) -> u64
-    requires { ⌜ place < 32 ⌝ }
-    ensures { λ r. ⌜ r ≡ word / 2 ^ place % 2 ^ 16 ⌝ }
-{
-    ((word >> place) % 65536) as u64
-}
-
-fn pair(first: u32, second: u32) -> u64
-    ensures { λ r. ⌜ r ≡ pairOf first second ⌝ }
-{
-    wide(second) * 4294967296 + wide(first)
-}
 
 // ---- a row of what each thread has
 
@@ -40,7 +20,7 @@ fn words(file: &[u32], r: usize, row: &mut [u64; 32])
     let mut out = [0u64; 32];
     let mut t = 0;
     while t < 32 {
-        out[t] = wide(file[base + t]);
+        out[t] = lane::wide(file[base + t]);
         t += 1;
     }
     *row = out;
@@ -50,12 +30,12 @@ fn halves(file: &[u32], h: u8, row: &mut [u64; 32])
     requires { ⌜ 32 * (h / 2 + 1) ≤ length (now file) ⌝ }
     ensures { λ _. ⌜ now (row .exit) ≡ tab 32 (halfAt (now (file .entry)) h) ⌝ }
 {
-    let base = 32 * register::index(h / 2);
-    let place = register::place(h as u16);
+    let base = 32 * lane::index(h / 2);
+    let place = lane::place(h as u16);
     let mut out = [0u64; 32];
     let mut t = 0;
     while t < 32 {
-        out[t] = part(file[base + t], place);
+        out[t] = lane::part(file[base + t], place);
         t += 1;
     }
     *row = out;
@@ -70,7 +50,7 @@ fn pairs(file: &[u32], r: usize, row: &mut [u64; 32])
     let mut out = [0u64; 32];
     let mut t = 0;
     while t < 32 {
-        out[t] = pair(file[base + t], file[next + t]);
+        out[t] = lane::pair(file[base + t], file[next + t]);
         t += 1;
     }
     *row = out;
@@ -100,14 +80,14 @@ fn uniform_half(uniforms: &[u32], h: u16) -> u64
     ensures { λ r. ⌜ r ≡ halfOf h (getD (now (uniforms .entry)) (h / 2) 0) ⌝ }
 {
     let i = (h / 2) as usize;
-    part(uniform(uniforms, i), register::place(h))
+    lane::part(uniform(uniforms, i), lane::place(h))
 }
 
 fn uniform_pair(uniforms: &[u32], r: u8) -> u64
     ensures { λ v. ⌜ v ≡ pairOf (getD (now (uniforms .entry)) r 0) (getD (now (uniforms .entry)) (r + 1) 0) ⌝ }
 {
-    let i = register::index(r);
-    pair(uniform(uniforms, i), uniform(uniforms, i + 1))
+    let i = lane::index(r);
+    lane::pair(uniform(uniforms, i), uniform(uniforms, i + 1))
 }
 
 // ---- a row for each source
@@ -118,10 +98,10 @@ fn source(registers: &[u32], uniforms: &[u32], s: Source, row: &mut [u64; 32])
 {
     match s {
         Source::Half(h) => halves(registers, h, row),
-        Source::Register(r) => words(registers, register::index(r), row),
-        Source::Pair(r) => pairs(registers, register::index(r), row),
+        Source::Register(r) => words(registers, lane::index(r), row),
+        Source::Pair(r) => pairs(registers, lane::index(r), row),
         Source::UniformHalf(h) => fill(uniform_half(uniforms, h), row),
-        Source::UniformRegister(r) => fill(wide(uniform(uniforms, register::index(r))), row),
+        Source::UniformRegister(r) => fill(lane::wide(uniform(uniforms, lane::index(r))), row),
         Source::UniformPair(r) => fill(uniform_pair(uniforms, r), row),
         Source::Immediate(v) => fill(v as u64, row),
     }
@@ -138,7 +118,7 @@ fn input(registers: &[u32], uniforms: &[u32], specials: &[u32], x: Input, row: &
             let s = a.source;
             source(registers, uniforms, s, row);
         }
-        Input::Special(k) => words(specials, register::index(k), row),
+        Input::Special(k) => words(specials, lane::index(k), row),
     }
 }
 

@@ -2,8 +2,8 @@
 use Prim.Native.Nat.{ℕ}
 use mathlib.Core.List.{List, [], _∷_, _++_}
 use Rattle.bits.specs.Word.{bytesOf}
-use Rattle.parts.specs.declared.Slot.{Slot}
-use Rattle.parts.specs.declared.Parts.{Parts}
+use Rattle.isa.specs.declared.parts.Slot.{Slot}
+use Rattle.isa.specs.declared.parts.Parts.{Parts}
 
 abbrev pub slotBytes : Slot → List ℕ
 slotBytes s = s .kind ∷ s .hint ∷ bytesOf 2 (s .number)

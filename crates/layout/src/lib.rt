@@ -1,7 +1,7 @@
 // Laying out the parts of an instruction as bytes.
 ghost use mathlib.Core.Path.{_≡_};
 ghost use Rattle.layout.specs.Lay.{layWith};
-use parts::Parts;
+use isa::parts::Parts;
 
 // The 48 bytes in the order of docs/byte-form.md; n is the length of the encoding.
 pub fn lay_out(p: Parts, n: u8) -> [u8; 48]

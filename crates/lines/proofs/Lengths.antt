@@ -8,19 +8,17 @@ use lib.ListN.{length, length-append, set}
 use lib.Seq.{sets}
 use lib.Dec.{lit<}
 use Rattle.isa.specs.Refusal.{numberOf}
-use Rattle.isa.specs.Place.{placeOf}
 use Rattle.isa.specs.declared.answer.Refusal.{Refusal}
-use Rattle.isa.specs.declared.instruction.Instruction.{Instruction}
-use Rattle.lines.specs.Line.{hexBytes, tailAt, lineOf}
+use Rattle.lines.specs.Line.{tailAt, lineAt}
+use Rattle.hex.specs.Hex.{hexBytes}
 
 pub length-hexBytes : (s : List ℕ) → length (hexBytes s) ≡ 2 * length s
 length-hexBytes [] = refl
 length-hexBytes (b ∷ s) = let ih = length-hexBytes s in omega arith
 
-pub length-line : (at : ℕ) (s : List ℕ) (i : Instruction)
-    → length (lineOf at s i) ≡ 5 + 2 * length s + length (tailAt (placeOf i))
-unfolding lineOf
-length-line at s i = omega (arith, length-append (hexBytes s) (tailAt (placeOf i)), length-hexBytes s)
+pub length-line : (at : ℕ) (s : List ℕ) (place : ℕ) → length (lineAt at s place) ≡ 5 + 2 * length s + length (tailAt place)
+unfolding lineAt
+length-line at s place = omega (arith, length-append (hexBytes s) (tailAt place), length-hexBytes s)
 
 pub number-below : (r : Refusal) → numberOf r < 16
 number-below Refusal.BadSize = lit< tt

@@ -3,33 +3,29 @@ ghost use mathlib.Core.Path.{_≡_};
 ghost use Prim.Native.Nat.{_+_, _*_, _≤_, _<_};
 ghost use lib.ListN.{length};
 ghost use lib.Seq.{sets};
-ghost use Rattle.isa.specs.Place.{placeOf};
-ghost use Rattle.lines.specs.Line.{tailAt, lineOf, endLine, refusedLine};
+ghost use Rattle.lines.specs.Line.{tailAt, lineAt, endLine, refusedLine};
 
 mod heading;
-mod hex;
 
 use bits::piece;
 use isa::answer;
 use isa::answer::Refusal;
-use isa::instruction;
-use isa::instruction::Instruction;
 
-// How long the line of an instruction of k bytes is.
-pub fn line_length(i: Instruction, k: usize) -> usize
-    requires { ⌜ k ≤ 8 ⌝ }
-    ensures { λ r. ⌜ (r ≡ 5 + 2 * k + length (tailAt (placeOf i))) × (r ≤ 36) ⌝ }
+// How long the line of an instruction of k bytes is, by the place of its diagram in the list.
+pub fn line_length(place: usize, k: usize) -> usize
+    requires { ⌜ (place < 22) × (k ≤ 8) ⌝ }
+    ensures { λ r. ⌜ (r ≡ 5 + 2 * k + length (tailAt place)) × (r ≤ 36) ⌝ }
 {
-    5 + 2 * k + heading::tail_length(instruction::place(i))
+    5 + 2 * k + heading::tail_length(place)
 }
 
-pub fn put_line(text: &mut [u8], n: usize, at: usize, bytes: &[u8], i: Instruction)
-    requires { ⌜ (n + (5 + 2 * length (now bytes) + length (tailAt (placeOf i))) ≤ length (now text)) × (at < 65536) ⌝ }
-    ensures { λ r. ⌜ now (text .exit) ≡ sets (now (text .entry)) n (lineOf at (now (bytes .entry)) i) ⌝ }
+pub fn put_line(text: &mut [u8], n: usize, at: usize, bytes: &[u8], place: usize)
+    requires { ⌜ (n + (5 + 2 * length (now bytes) + length (tailAt place)) ≤ length (now text)) × (at < 65536) × (place < 22) ⌝ }
+    ensures { λ r. ⌜ now (text .exit) ≡ sets (now (text .entry)) n (lineAt at (now (bytes .entry)) place) ⌝ }
 {
     hex::put_address(text, n, at);
     hex::put_bytes(text, n + 5, bytes);
-    heading::put_tail(text, n + 5 + 2 * bytes.len(), instruction::place(i));
+    heading::put_tail(text, n + 5 + 2 * bytes.len(), place);
 }
 
 pub fn put_end(text: &mut [u8], n: usize, at: usize)

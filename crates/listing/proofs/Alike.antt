@@ -13,7 +13,8 @@ use Rattle.isa.specs.Operand.{destinationOf}
 use Rattle.isa.specs.Together.{withDst}
 use Rattle.isa.specs.Decode.{decodeOf}
 use Rattle.listing.specs.Walk.{walkFrom, walkOf, shown, stop, refusal}
-use Rattle.lines.specs.Line.{lineOf, endLine}
+use Rattle.isa.specs.Parts.{partsOf}
+use Rattle.lines.specs.Line.{lineAt, lineOf, endLine}
 use Rattle.listing.specs.Listing.{textOf, listingOf}
 use Rattle.listing.proofs.Apart.{text-same}
 use Rattle.listing.proofs.Seen.{plain, seen}
@@ -46,5 +47,5 @@ shown-before a = seen a .before ∙ ap (λ (n : ℕ). take n a) (sym (seen a .pl
 -- The example of the statement of what to build.
 pub example : listingOf (0x62 ∷ 0x04 ∷ 0x34 ∷ 0x12 ∷ 0x62 ∷ 0x05 ∷ 0x78 ∷ 0x56 ∷ 0x34 ∷ 0x12 ∷ [])
     ≡ ascii "0000 62043412 mov16\n0004 620578563412 mov32\n000A end\n"
-unfolding rows forms destinationOf withDst decodeOf walkFrom walkOf lineOf endLine textOf listingOf
+unfolding rows forms partsOf destinationOf withDst decodeOf walkFrom walkOf lineAt endLine textOf listingOf
 example = refl

@@ -11,11 +11,12 @@ use borrow.Author.Tests.{ltb-true}
 use Rattle.bits.proofs.Laws.{Bytes}
 use Rattle.isa.specs.Rows.{rows}
 use Rattle.isa.specs.Refusal.{numberOf}
-use Rattle.isa.specs.Place.{placeOf}
+use Rattle.isa.specs.Parts.{placeOf}
 use Rattle.isa.specs.declared.answer.Refusal.{Refusal}
 use Rattle.isa.specs.declared.instruction.Instruction.{Instruction}
 use Rattle.listing.specs.Walk.{Walk, ended, refused, stepped, shown, refusal}
-use Rattle.lines.specs.Line.{digit, hexBytes, tailAt, lineOf, endLine, refusedLine}
+use Rattle.lines.specs.Line.{tailAt, lineAt, lineOf, endLine, refusedLine}
+use Rattle.hex.specs.Hex.{digit, hexBytes}
 use Rattle.listing.specs.Listing.{textOf}
 use Rattle.bits.proofs.Table.{agree}
 use Rattle.isa.proofs.Placed.{place-below}
@@ -110,12 +111,12 @@ mark : List ℕ → ℕ
 mark t = getD t 5 0
 
 mark-step : (at : ℕ) (s : List ℕ) (i : Instruction) (w : Walk) → Bytes s → mark (textOf (stepped at s i w)) < 97
-unfolding mark textOf lineOf
+unfolding mark textOf lineAt
 mark-step at [] i w p = omega arith
 mark-step at (b ∷ s) i w p = let h : b < 256 = p 0 in digit-below (b / 16) (omega arith)
 
 pub text-same : (v w : Walk) → Plain v → Plain w → textOf v ≡ textOf w → (shown v ≡ shown w) × (refusal v ≡ refusal w)
-unfolding mark textOf lineOf endLine refusedLine
+unfolding mark textOf lineAt endLine refusedLine
 text-same (ended a) (ended b) p q e = (refl, refl)
 text-same (ended a) (refused b r) p q e = let z = ap mark e in absurd (omega arith)
 text-same (ended a) (stepped b t j w) p q e = let z = ap mark e in absurd (omega (arith, mark-step b t j w (q .0)))

@@ -14,8 +14,8 @@ use Rattle.isa.specs.Decode.{decodeOf}
 use Rattle.isa.specs.declared.answer.Refusal.{Refusal}
 use Rattle.isa.specs.declared.answer.Decoded.{Decoded}
 use Rattle.isa.specs.declared.instruction.Instruction.{Instruction}
-use Rattle.listing.specs.Walk.{Walk, refused, stepped, onDecoded, walkFrom, walkOf, decodedAt, limit}
-use Rattle.isa.specs.Place.{placeOf}
+use Rattle.listing.specs.Walk.{Walk, refused, stepped, onDecoded, walkFrom, walkOf, standsAt, limit}
+use Rattle.isa.specs.Parts.{placeOf}
 use Rattle.lines.specs.Line.{lineOf, endLine, refusedLine, tailAt}
 use Rattle.listing.specs.Listing.{textOf, listingOf}
 use Rattle.lines.proofs.Lengths.{length-line}
@@ -88,7 +88,7 @@ listed : (t : Bool) (d : Decoded) (r : Refusal) (i : Instruction) (n : ℕ) → 
 listed true d r i n e = (refl, e)
 listed false d r i n e = let z : _≡_ {A = ℕ} 0 1 = cc in absurd (omega arith)
 
-found-within : (code : List ℕ) (at : ℕ) (i : Instruction) (k : ℕ) → at < length code → decodedAt code at ≡ Decoded.Found i k
+found-within : (code : List ℕ) (at : ℕ) (i : Instruction) (k : ℕ) → at < length code → standsAt code at ≡ Decoded.Found i k
     → (4 ≤ k) × (k ≤ 8) × (at + k ≤ length code) × (length code ≤ limit)
 found-within code at i k h e =
     let t = listed (leb (length code) limit) (decodeOf (drop at code)) Refusal.BadSize i k e in
@@ -98,7 +98,7 @@ found-within code at i k h e =
     omega arith
 
 walk-at : (code : List ℕ) (at : ℕ) → at < length code
-    → walkAt code at ≡ stepBy (decodedAt code at) (λ a t. walkAt code a) at (drop at code)
+    → walkAt code at ≡ stepBy (standsAt code at) (λ a t. walkAt code a) at (drop at code)
 unfolding walkAt
 walk-at code at h = one (leb (length code) limit)
   where
@@ -113,12 +113,12 @@ walk-at code at h = one (leb (length code) limit)
         (λ i n e. ap (walkAll (at + n)) (drop-drop n at code))
     one false = refl
 
-left-at : (code : List ℕ) (at : ℕ) (d : Decoded) → at < length code → decodedAt code at ≡ d
+left-at : (code : List ℕ) (at : ℕ) (d : Decoded) → at < length code → standsAt code at ≡ d
     → left code at ≡ textOf (stepBy d (λ a t. walkAt code a) at (drop at code))
 unfolding left
 left-at code at d h e = ap textOf (walk-at code at h ∙ ap (λ (x : Decoded). stepBy x (λ a t. walkAt code a) at (drop at code)) e)
 
-left-line : (code : List ℕ) (at : ℕ) (i : Instruction) (k : ℕ) → at < length code → decodedAt code at ≡ Decoded.Found i k
+left-line : (code : List ℕ) (at : ℕ) (i : Instruction) (k : ℕ) → at < length code → standsAt code at ≡ Decoded.Found i k
     → left code at ≡ lineOf at (take k (drop at code)) i ++ left code (at + k)
 unfolding left textOf
 left-line code at i k h e = left-at code at (Decoded.Found i k) h e
@@ -130,14 +130,14 @@ pub record Step (code : List ℕ) (at : ℕ) (i : Instruction) (k : ℕ) : Type 
   pub text : left code at ≡ lineOf at (take (at + k - at) (drop at code)) i ++ left code (at + k)
   pub size : length (left code at) ≡ 5 + 2 * k + length (tailAt (placeOf i)) + length (left code (at + k))
 
-pub step : (code : List ℕ) (at : ℕ) (i : Instruction) (k : ℕ) (d : Decoded) → at < length code → d ≡ decodedAt code at
+pub step : (code : List ℕ) (at : ℕ) (i : Instruction) (k : ℕ) (d : Decoded) → at < length code → d ≡ standsAt code at
     → d ≡ Decoded.Found i k → Step code at i k
 step code at i k d h e f =
-    let g : decodedAt code at ≡ Decoded.Found i k = sym e ∙ f in
+    let g : standsAt code at ≡ Decoded.Found i k = sym e ∙ f in
     let w = found-within code at i k h g in
     let z : at + k - at ≡ k = omega arith in
     let t : length (take k (drop at code)) ≡ k = rw length-take (rw length-drop (omega arith)) in
-    let l = length-line at (take k (drop at code)) i in
+    let l = length-line at (take k (drop at code)) (placeOf i) in
     record {
       within = w;
       bytes = rw z t;
@@ -148,7 +148,7 @@ step code at i k d h e f =
           ∙ omega arith;
     }
 
-pub left-refused : (code : List ℕ) (at : ℕ) (r : Refusal) (d : Decoded) → at < length code → d ≡ decodedAt code at
+pub left-refused : (code : List ℕ) (at : ℕ) (r : Refusal) (d : Decoded) → at < length code → d ≡ standsAt code at
     → d ≡ Decoded.Refused r → left code at ≡ refusedLine at r
 unfolding textOf
 left-refused code at r d h e f = left-at code at (Decoded.Refused r) h (sym e ∙ f)

@@ -10,12 +10,12 @@ use lib.Seq.{take-append-seam}
 use borrow.Author.Tests.{leb-true, le-leb}
 use Rattle.isa.proofs.Found.{found-length}
 use Rattle.isa.specs.Decode.{decodeOf}
-use Rattle.isa.specs.Place.{placeOf}
+use Rattle.isa.specs.Parts.{placeOf}
 use Rattle.isa.specs.declared.answer.Refusal.{Refusal}
 use Rattle.isa.specs.declared.instruction.Instruction.{Instruction}
 use Rattle.listing.specs.Walk.{Walk, refused, stepped, walkFrom, walkOf, limit}
 use Rattle.lines.specs.Line.{lineOf, tailAt, endLine, refusedLine}
-use Rattle.listing.specs.Listing.{textOf, listingOf, listedOf, leftBy}
+use Rattle.listing.specs.Listing.{textOf, listingOf, listedOf, listingLeft}
 use Rattle.listing.specs.declared.Listed.{Listed}
 use Rattle.lines.proofs.Lengths.{length-line}
 use Rattle.isa.proofs.Placed.{place-below}
@@ -30,7 +30,7 @@ unfolding textOf
 room-step at n s i w h g r =
     let p = place-below i in
     let a = length-append (lineOf at (take n s) i) (textOf w) in
-    let b = length-line at (take n s) i in
+    let b = length-line at (take n s) (placeOf i) in
     let t : length (take n s) ≡ n = rw length-take (omega arith) in
     let e : length (tailAt (placeOf i)) ≤ 15 = rw (← size-right (placeOf i) p) (size-small (placeOf i) p) in
     let d = length-drop n s in
@@ -61,7 +61,7 @@ room code = one (leb (length code) limit) refl
 
 -- the call on a text of 65,536 bytes: it is not refused, and leaves the listing at the start
 module _ (code old new : List ℕ) (r : Listed) (h : 65536 ≡ length old) (e : r ≡ listedOf code (length old))
-    (f : new ≡ leftBy code old) where
+    (f : new ≡ listingLeft code old) where
   fits : leb (length (listingOf code)) (length old) ≡ true
   fits = le-leb (length (listingOf code)) (length old) (omega (arith, room code))
 

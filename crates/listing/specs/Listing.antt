@@ -25,5 +25,5 @@ listedOf code room =
     cond (leb (length (listingOf code)) room) (Listed.Wrote (length (listingOf code))) (Listed.Refused Refusal.BadSize)
 
 -- the listing at the start of what stood there
-abbrev pub leftBy : List ℕ → List ℕ → List ℕ
-leftBy code old = cond (leb (length (listingOf code)) (length old)) (listingOf code ++ drop (length (listingOf code)) old) old
+abbrev pub listingLeft : List ℕ → List ℕ → List ℕ
+listingLeft code old = cond (leb (length (listingOf code)) (length old)) (listingOf code ++ drop (length (listingOf code)) old) old

@@ -41,8 +41,8 @@ unfoldable pub walkOf : List ℕ → Walk
 walkOf code = cond (leb (length code) limit) (walkFrom (length code) 0 code) (refused 0 Refusal.BadSize)
 
 -- what stands at an address of the code; where the code is too long, a refusal
-abbrev pub decodedAt : List ℕ → ℕ → Decoded
-decodedAt code at = cond (leb (length code) limit) (decodeOf (drop at code)) (Decoded.Refused Refusal.BadSize)
+abbrev pub standsAt : List ℕ → ℕ → Decoded
+standsAt code at = cond (leb (length code) limit) (decodeOf (drop at code)) (Decoded.Refused Refusal.BadSize)
 
 -- ---- what a walk has seen
 

@@ -3,15 +3,16 @@ ghost use mathlib.Core.Path.{_≡_};
 ghost use Prim.Native.Nat.{_≤_};
 ghost use lib.ListN.{length};
 ghost use lib.Seq.{sets};
-ghost use Rattle.listing.specs.Walk.{decodedAt};
+ghost use Rattle.listing.specs.Walk.{standsAt};
 ghost use Rattle.listing.specs.Listing.{listingOf};
 use crate::LIMIT;
+use crate::line;
 use isa::answer::Decoded;
 use isa::answer::Refusal;
 
 fn decoded_at(code: &[u8], at: usize) -> Decoded
     requires { ⌜ at ≤ length (now code) ⌝ }
-    ensures { λ r. ⌜ r ≡ decodedAt (now (code .entry)) at ⌝ }
+    ensures { λ r. ⌜ r ≡ standsAt (now (code .entry)) at ⌝ }
 {
     if LIMIT < code.len() {
         return Decoded::Refused(Refusal::BadSize);
@@ -28,7 +29,7 @@ pub fn measure(code: &[u8]) -> usize
     while at < code.len() {
         match decoded_at(code, at) {
             Decoded::Found(i, k) => {
-                n += lines::line_length(i, k);
+                n += line::line_length(i, k);
                 at += k;
             }
             Decoded::Refused(_) => return n + 15,
@@ -47,8 +48,8 @@ pub fn write(code: &[u8], text: &mut [u8])
         match decoded_at(code, at) {
             Decoded::Found(i, k) => {
                 let end = at + k;
-                lines::put_line(text, n, at, &code[at..end], i);
-                n += lines::line_length(i, k);
+                line::put_line(text, n, at, &code[at..end], i);
+                n += line::line_length(i, k);
                 at = end;
             }
             Decoded::Refused(r) => {

@@ -12,7 +12,7 @@ use Rattle.machine.specs.Words.{Tables}
 use Rattle.machine.specs.Meaning.{meaningOf}
 use Rattle.machine.specs.State.{State}
 use Rattle.machine.specs.Step.{Step, Stepped, accepted, refused, stepOf}
-use Rattle.machine.specs.Run.{Call, arranged, Run, ends, after, goesOn, runFrom, tablesOf, startOf, runOf}
+use Rattle.machine.specs.Run.{Call, arranged, Run, ends, after, onStepped, runFrom, tablesOf, startOf, runOf}
 use Rattle.machine.specs.declared.answer.Ending.{Ending}
 use Rattle.machine.proofs.Steps.{Numbered, step-made, step-numbered, mask-after}
 
@@ -28,7 +28,7 @@ module _ (code : List ℕ) (tables : Tables) (P : ℕ → State → Run → Type
       → P n (step .after) rest → P (suc n) s (after step rest)) where
 
   goes : (n : ℕ) (s : State) (x : Stepped) → stepOf code tables s ≡ x → (s .address ≡ length code → ⊥)
-      → ((z : State) → P n z (runFrom code tables n z)) → P (suc n) s (goesOn x s (runFrom code tables n))
+      → ((z : State) → P n z (runFrom code tables n z)) → P (suc n) s (onStepped x s (runFrom code tables n))
   goes n s (accepted step) e ne ih = steps n s step (runFrom code tables n (step .after)) e (ih (step .after))
   goes n s (refused r) e ne ih = refuses n s r ne e
 
@@ -42,8 +42,8 @@ module _ (code : List ℕ) (tables : Tables) (P : ℕ → State → Run → Type
   every-run (suc n) s = go (eqb (s .address) (length code)) refl (λ ne. goes n s (stepOf code tables s) refl ne (every-run n))
     where
       go : (b : Bool) → eqb (s .address) (length code) ≡ b
-          → ((s .address ≡ length code → ⊥) → P (suc n) s (goesOn (stepOf code tables s) s (runFrom code tables n)))
-          → P (suc n) s (cond b (ends Ending.Finished s) (goesOn (stepOf code tables s) s (runFrom code tables n)))
+          → ((s .address ≡ length code → ⊥) → P (suc n) s (onStepped (stepOf code tables s) s (runFrom code tables n)))
+          → P (suc n) s (cond b (ends Ending.Finished s) (onStepped (stepOf code tables s) s (runFrom code tables n)))
       go true e h = finishes (suc n) s (eqb-true _ _ e)
       go false e h = h (eqb-false _ _ e)
 

@@ -65,16 +65,16 @@ ends ending s = record { steps = []; ending = ending; last = s }
 abbrev pub after : Step → Run → Run
 after step rest = record { steps = step ∷ rest .steps; ending = rest .ending; last = rest .last }
 
-abbrev pub goesOn : Stepped → State → (State → Run) → Run
-goesOn (accepted step) s rest = after step (rest (step .after))
-goesOn (refused r) s rest = ends (Ending.Refused r) s
+abbrev pub onStepped : Stepped → State → (State → Run) → Run
+onStepped (accepted step) s rest = after step (rest (step .after))
+onStepped (refused r) s rest = ends (Ending.Refused r) s
 
 -- if the address equals the code length, the run is finished; otherwise if the budget is used up, it is spent; otherwise it steps
 unfoldable pub runFrom : List ℕ → Tables → ℕ → State → Run
 runFrom code tables zero s = cond (eqb (s .address) (length code)) (ends Ending.Finished s) (ends Ending.Spent s)
 runFrom code tables (suc budget) s =
     cond (eqb (s .address) (length code)) (ends Ending.Finished s)
-    (goesOn (stepOf code tables s) s (runFrom code tables budget))
+    (onStepped (stepOf code tables s) s (runFrom code tables budget))
 
 abbrev pub tablesOf : Call → Tables
 tablesOf c = record { uniforms = c .uniforms; specials = c .specials }

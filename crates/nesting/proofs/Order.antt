@@ -9,9 +9,9 @@ use lib.Signed.{ltZ, mag}
 use borrow.Author.Tests.{eqb-true, eqb-false, ltb-true, ltb-false, lt-ltb, le-ltb}
 use Rattle.machine.specs.Integer.{modulo, signExtend}
 use Rattle.machine.specs.Meaning.{both, isSet, extended, compared}
-use Rattle.action.specs.Operation.{Sized}
+use Rattle.operations.specs.Operation.{Sized}
 use Rattle.signs.proofs.Modulo.{extended-range}
-use Rattle.nesting.specs.Place.{raised, placeOf}
+use Rattle.nesting.specs.Rank.{raised, rankOf}
 
 same-test : (a b c d : ℕ) → (a < b → c < d) → (b ≤ a → d ≤ c) → ltb a b ≡ ltb c d
 same-test a b c d f g = go (ltb a b) refl
@@ -28,8 +28,8 @@ raised-order (negsuc a) (pos b) h k = sym (lt-ltb (raised (negsuc a)) (raised (p
 raised-order (negsuc a) (negsuc b) h k = same-test b a (raised (negsuc a)) (raised (negsuc b)) (λ l. omega arith) (λ l. omega arith)
 
 place-order : (s p q a b : ℕ) → Sized p → Sized q → a < 2 ^ p → b < 2 ^ q
-    → ltZ (extended s p a) (extended s q b) ≡ ltb (placeOf s p a) (placeOf s q b)
-unfolding extended placeOf
+    → ltZ (extended s p a) (extended s q b) ≡ ltb (rankOf s p a) (rankOf s q b)
+unfolding extended rankOf
 place-order s p q a b u v h k = go (isSet s)
   where
     go : (t : Bool) → ltZ (cond t (signExtend a p) (pos a)) (cond t (signExtend b q) (pos b))
@@ -39,7 +39,7 @@ place-order s p q a b u v h k = go (isSet s)
 
 -- a comparison goes by the order alone
 pub same-comparison : (relation s p q a b x y : ℕ) (r : Bool) → Sized p → Sized q → a < 2 ^ p → b < 2 ^ q
-    → x ≡ placeOf s p a → y ≡ placeOf s q b → r ≡ compared relation (pos x) (pos y)
+    → x ≡ rankOf s p a → y ≡ rankOf s q b → r ≡ compared relation (pos x) (pos y)
     → r ≡ compared relation (extended s p a) (extended s q b)
 same-comparison relation s p q a b x y r u v h k ex ey e =
     let l : ltb x y ≡ ltZ (extended s p a) (extended s q b) = (λ i. ltb (ex i) (ey i)) ∙ sym (place-order s p q a b u v h k) in

@@ -5,10 +5,10 @@ ghost use mathlib.Core.Bool.{cond, not};
 ghost use lib.IntN.{pos};
 ghost use Rattle.machine.specs.Integer.{modulo};
 ghost use Rattle.machine.specs.Meaning as meaning;
-ghost use Rattle.action.specs.Operation.{conditionOf, Sized, SizedBy, Within};
-ghost use Rattle.action.specs.declared.operation.Operation.{Operation};
-ghost use Rattle.nesting.specs.Place.{placeOf};
-use action::operation::Test;
+ghost use Rattle.operations.specs.Operation.{conditionOf, Sized, SizedBy, ValuesWithin};
+ghost use Rattle.operations.specs.declared.Operation.{Operation};
+ghost use Rattle.nesting.specs.Rank.{rankOf};
+use operations::Test;
 use signs::extend;
 
 fn wide(x: u8) -> u64
@@ -18,9 +18,9 @@ fn wide(x: u8) -> u64
 }
 
 // Where a value stands in the order of all words.
-fn place(x: u64, signed: u8, size: u8) -> u64
+fn rank(x: u64, signed: u8, size: u8) -> u64
     requires { ⌜ Sized size ⌝ }
-    ensures { λ r. ⌜ r ≡ placeOf signed size x ⌝ }
+    ensures { λ r. ⌜ r ≡ rankOf signed size x ⌝ }
 {
     let word = extend(x, signed, size);
     if signed == 1 {
@@ -53,8 +53,8 @@ pub fn holds(o: Test, a: u64, b: u64) -> bool
     ensures { λ r. ⌜ r ≡ meaning.holds (conditionOf o) a b ⌝ }
 {
     let signed = o.cc / 4;
-    let x = place(a, signed, o.asize);
-    let y = place(b, signed, o.bsize);
+    let x = rank(a, signed, o.asize);
+    let y = rank(b, signed, o.bsize);
     turned(o.ccn, compared(o.cc % 4, x, y))
 }
 
@@ -66,7 +66,7 @@ pub fn pop_exec(n: u8, v: u64) -> u64
 }
 
 pub fn if_icmp(o: Test, a: u64, b: u64, v: u64) -> u64
-    requires { ⌜ SizedBy (Operation.IfIcmp o) × Within (Operation.IfIcmp o) a b v ⌝ }
+    requires { ⌜ SizedBy (Operation.IfIcmp o) × ValuesWithin (Operation.IfIcmp o) a b v ⌝ }
     ensures { λ r. ⌜ r ≡ modulo (meaning.ifIcmp (conditionOf o) (o .n) a b v) 64 ⌝ }
 {
     if v != 0 {
@@ -79,7 +79,7 @@ pub fn if_icmp(o: Test, a: u64, b: u64, v: u64) -> u64
 }
 
 pub fn while_icmp(o: Test, a: u64, b: u64, v: u64) -> u64
-    requires { ⌜ SizedBy (Operation.WhileIcmp o) × Within (Operation.WhileIcmp o) a b v ⌝ }
+    requires { ⌜ SizedBy (Operation.WhileIcmp o) × ValuesWithin (Operation.WhileIcmp o) a b v ⌝ }
     ensures { λ r. ⌜ r ≡ modulo (meaning.whileIcmp (conditionOf o) (o .n) a b v) 64 ⌝ }
 {
     let n = wide(o.n);
@@ -91,7 +91,7 @@ pub fn while_icmp(o: Test, a: u64, b: u64, v: u64) -> u64
 }
 
 pub fn else_icmp(o: Test, a: u64, b: u64, v: u64) -> u64
-    requires { ⌜ SizedBy (Operation.ElseIcmp o) × Within (Operation.ElseIcmp o) a b v ⌝ }
+    requires { ⌜ SizedBy (Operation.ElseIcmp o) × ValuesWithin (Operation.ElseIcmp o) a b v ⌝ }
     ensures { λ r. ⌜ r ≡ modulo (meaning.elseIcmp (conditionOf o) (o .n) a b v) 64 ⌝ }
 {
     if v == 0 {

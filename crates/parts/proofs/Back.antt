@@ -17,11 +17,11 @@ use Rattle.isa.specs.declared.instruction.Shift.{Shift}
 use Rattle.isa.specs.declared.instruction.Scan.{Scan}
 use Rattle.isa.specs.declared.instruction.Compare.{Compare}
 use Rattle.isa.specs.declared.instruction.Instruction.{Instruction}
-use Rattle.parts.specs.declared.Slot.{Slot}
-use Rattle.parts.specs.declared.Parts.{Parts}
-use Rattle.parts.specs.Parts.{slot, signsOf, truthOf, conditionOf, parts, hintNumber, destinationSlot, sourceSlot, dstSlot, srcSlot}
-use Rattle.parts.specs.Parts.{ofBitfield, ofShift, ofScan, ofCompare, partsOf, numbersOf, same}
-use Rattle.parts.proofs.Lists.{eqList-is, eqList-self}
+use Rattle.isa.specs.declared.parts.Slot.{Slot}
+use Rattle.isa.specs.declared.parts.Parts.{Parts}
+use Rattle.isa.specs.Parts.{slot, signsOf, truthOf, conditionOf, parts, hintNumber, destinationSlot, sourceSlot, dstSlot, srcSlot}
+use Rattle.isa.specs.Parts.{ofBitfield, ofShift, ofScan, ofCompare, partsOf, numbersOf, same}
+use Rattle.bits.proofs.Lists.{eqList-is, eqList-self}
 
 -- ---- operands
 

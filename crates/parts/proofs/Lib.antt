@@ -1,4 +1,1 @@
-pub mod Lists
 pub mod Back
-pub mod Kind
-pub mod Length

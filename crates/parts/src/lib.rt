@@ -1,74 +1,23 @@
-// An instruction taken apart into numbers, each under one name in every instruction: what the byte form lays out, and what the
-// fields of a diagram are made of. A part that the instruction does not have is 0.
+// The parts of an instruction.
 ghost use mathlib.Core.Path.{_≡_};
-ghost use Prim.Native.Nat.{_<_};
-ghost use Rattle.parts.specs.Parts.{partsOf, lengthFor, same};
+ghost use Rattle.isa.specs.Parts.{partsOf, placeOf, same};
 
-mod build;
-mod compare;
-mod operand;
-
-use crate::build::no_signs;
-use crate::build::no_truth;
-use crate::build::of_binary;
-use crate::build::of_bitfield;
-use crate::build::of_compare;
-use crate::build::of_dst;
-use crate::build::of_jump;
-use crate::build::of_pop;
-use crate::build::of_scan;
-use crate::build::of_shift;
-use crate::build::of_ternary;
-use crate::compare::same_parts;
 use isa::instruction::Instruction;
-
-// An operand: its kind (0 is none), its hint and its number. docs/byte-form.md has the numbers of kinds and hints.
-pub struct Slot {
-    pub kind: u8,
-    pub hint: u8,
-    pub number: u16,
-}
-
-// S, N, As, Bs, Cs and the shift of iadd and imadd
-pub struct Signs {
-    pub saturate: u8,
-    pub negate: u8,
-    pub sa: u8,
-    pub sb: u8,
-    pub sc: u8,
-    pub shift: u8,
-}
-
-// The truth table of bitop
-pub struct Truth {
-    pub tt0: u8,
-    pub tt1: u8,
-    pub tt2: u8,
-    pub tt3: u8,
-}
-
-// The condition and the depth of a mask instruction
-pub struct Condition {
-    pub cc: u8,
-    pub ccn: u8,
-    pub n: u8,
-}
-
-// `kind` is 1 for the first diagram of the list. A mask instruction has no `d`, but the hint of r0l stands there.
-pub struct Parts {
-    pub kind: u8,
-    pub d: Slot,
-    pub a: Slot,
-    pub b: Slot,
-    pub c: Slot,
-    pub immediate: u32,
-    pub l: u8,
-    pub m: u8,
-    pub signs: Signs,
-    pub truth: Truth,
-    pub condition: Condition,
-    pub kept: u64,
-}
+use isa::parts::Parts;
+use isa::parts::Signs;
+use isa::parts::Truth;
+use numbers::build::no_signs;
+use numbers::build::no_truth;
+use numbers::build::of_binary;
+use numbers::build::of_bitfield;
+use numbers::build::of_compare;
+use numbers::build::of_dst;
+use numbers::build::of_jump;
+use numbers::build::of_pop;
+use numbers::build::of_scan;
+use numbers::build::of_shift;
+use numbers::build::of_ternary;
+use numbers::compare::same_parts;
 
 pub fn parts_of(i: Instruction) -> Parts
     ensures { λ r. ⌜ r ≡ partsOf i ⌝ }
@@ -108,20 +57,12 @@ pub fn parts_of(i: Instruction) -> Parts
     }
 }
 
-// The number of bytes of the encoding. The two movs are two bytes shorter where L is 0; no diagram has a kind above 22.
-pub fn length_of(p: Parts) -> usize
-    ensures { λ r. ⌜ (r ≡ lengthFor p) × (r < 9) ⌝ }
+// The place of the instruction's diagram in the list of rows, counted from 0.
+pub fn place(i: Instruction) -> usize
+    ensures { λ r. ⌜ r ≡ placeOf i ⌝ }
 {
-    let short = p.l == 0;
-    let kind = p.kind;
-    match kind {
-        0 | 1 => if short { 4 } else { 6 },
-        2 => if short { 6 } else { 8 },
-        3 => 4,
-        4..=12 => 8,
-        13..=22 => 6,
-        _ => 0,
-    }
+    let p = parts_of(i);
+    (p.kind as usize) - 1
 }
 
 // Whether two instructions are the same: all their numbers are.

@@ -12,7 +12,7 @@ use Rattle.isa.specs.declared.answer.Decoded.{Decoded}
 use Rattle.isa.specs.declared.answer.Encoded.{Encoded}
 use Rattle.isa.specs.declared.instruction.Instruction.{Instruction}
 use Rattle.isa.proofs.Found.{found-length}
-use Rattle.encode.specs.Encode.{leftBy}
+use Rattle.encode.specs.Encode.{encodingLeft}
 use Rattle.roundtrip.proofs.Round.{decode-encode}
 use Rattle.recode.specs.Recode.{answerOf, leftOf}
 use Rattle.recode.proofs.Same.{recoded-same}
@@ -24,7 +24,7 @@ done code old at = take at code ++ drop at old
 -- an instruction of n bytes, encoded into the part of the buffer that starts at the address, leaves the code n bytes further
 pub record Turn (code old out : List ℕ) (at : ℕ) (i : Instruction) (n : ℕ) : Type 0 where
   pub within : (0 < n) × (at + n ≤ length code)
-  pub encoded : (part : List ℕ) → part ≡ leftBy i (take (length out - at) (drop at out))
+  pub encoded : (part : List ℕ) → part ≡ encodingLeft i (take (length out - at) (drop at out))
       → take at out ++ (part ++ drop (length out - at) (drop at out)) ≡ done code old (at + n)
 
 module _ (code old out : List ℕ) (at : ℕ) (e : out ≡ done code old at) (h : at ≤ length code) (g : length code ≤ length old) where
@@ -75,7 +75,7 @@ module _ (code old out : List ℕ) (at : ℕ) (e : out ≡ done code old at) (h 
             ap decodeOf (sym (take-all (length code - at) (drop at code) (omega arith))) ∙ d in
       let w : (0 < n) × (at + n ≤ length code) = omega (arith, found-length (drop at code) i n t) in
       let all : length (drop at out) ≤ length out - at = omega arith in
-      let q : leftBy i (drop at out) ≡ take n (drop at code) ++ drop (at + n) old =
+      let q : encodingLeft i (drop at out) ≡ take n (drop at code) ++ drop (at + n) old =
             decode-encode (drop at code) (bytes-drop at code hs) i n t (drop at out) (omega arith) .1
             ∙ ap (λ (x : List ℕ). take n (drop at code) ++ x) (ap (drop n) kept ∙ drop-drop n at old) in
       record {

@@ -1,7 +1,7 @@
 // A kernel, decoded and encoded again.
 ghost use mathlib.Core.Path.{_≡_};
 ghost use lib.ListN.{length};
-ghost use Rattle.encode.specs.Encode.{leftBy};
+ghost use Rattle.encode.specs.Encode.{encodingLeft};
 ghost use Rattle.recode.specs.Recode.{answerOf, leftOf};
 use bits::piece;
 use isa::answer::Decoded;
@@ -11,7 +11,7 @@ use isa::instruction::Instruction;
 
 // Encodes an instruction, by way of its byte form, at the start of the buffer.
 fn encode_again(i: Instruction, out: &mut [u8])
-    ensures { λ r. ⌜ now (out .exit) ≡ leftBy i (now (out .entry)) ⌝ }
+    ensures { λ r. ⌜ now (out .exit) ≡ encodingLeft i (now (out .entry)) ⌝ }
 {
     let form = form::to_bytes(i);
     encode::encode_form(&form, out);

@@ -15,7 +15,7 @@ use Rattle.form.specs.declared.Spelled.{Spelled}
 use Rattle.form.proofs.Form.{spelled-form}
 use Rattle.encode.specs.Encode.{encodedSpelled, leftSpelled, encodedFrom}
 use Rattle.roundtrip.proofs.Round.{decode-encode, encode-decode}
-use Rattle.reedtassel.specs.Returned.{decodedBy, encodedBy}
+use Rattle.answers.specs.Returned.{decodedBy, encodedBy}
 use Rattle.reedtassel.specs.DecodeAt.{formLength, decodedAt, formLeft, DecodesAt}
 use Rattle.reedtassel.specs.EncodeForm.{EncodesForm}
 use Rattle.reedtassel.proofs.Decoding.{form-first, decoded-there}

@@ -18,8 +18,8 @@ use Rattle.form.specs.Form.{formOf, spelledOf}
 use Rattle.form.specs.declared.Spelled.{Spelled}
 use Rattle.form.proofs.Form.{form-length}
 use Rattle.machine.specs.Meaning.{both}
-use Rattle.runbytes.proofs.Answers.{put-first}
-use Rattle.reedtassel.specs.Returned.{refusedBy}
+use Rattle.bits.proofs.Pieces.{put-first}
+use Rattle.answers.specs.Returned.{refusedBy}
 use Rattle.reedtassel.specs.DecodeAt.{formLength, decodedAt, DecodesAt}
 
 -- the part of the code that is decoded is all from the offset on

@@ -6,10 +6,11 @@ use Prim.Native.Nat.{ℕ, _≤_, zero-le}
 use lib.Dec.{leb}
 use lib.ListN.{length}
 use Rattle.isa.specs.declared.answer.Encoded.{Encoded}
-use Rattle.parts.proofs.Length.{length-for}
+use Rattle.numbers.proofs.Length.{length-for}
 use Rattle.form.specs.Form.{spelledOf}
 use Rattle.form.specs.declared.Spelled.{Spelled}
-use Rattle.encode.specs.Encode.{lengthOf, accepts, answerBy, countOf, encodedOf, encodedSpelled, encodedFrom}
+use Rattle.encode.specs.Encode.{lengthOf, accepts, encodedOf, encodedSpelled, encodedFrom}
+use Rattle.answers.specs.Encoding.{answerBy, countOf}
 
 pub count-small : (form out : List ℕ) (e : Encoded) → e ≡ encodedFrom form out → countOf e ≤ 8
 unfolding encodedOf

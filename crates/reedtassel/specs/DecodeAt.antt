@@ -14,7 +14,7 @@ use Rattle.isa.specs.declared.instruction.Instruction.{Instruction}
 use Rattle.form.specs.Form.{formOf, spelledOf}
 use Rattle.form.specs.declared.Spelled.{Spelled}
 use Rattle.machine.specs.Meaning.{both}
-use Rattle.reedtassel.specs.Returned.{decodedBy}
+use Rattle.answers.specs.Returned.{decodedBy}
 
 -- the number of bytes of a byte form
 abbrev pub formLength : ℕ

@@ -5,7 +5,7 @@ use mathlib.Core.Path.{_≡_}
 use mathlib.Core.List.{List}
 use lib.IntN.{ℤ}
 use Rattle.encode.specs.Encode.{encodedFrom, leftFrom}
-use Rattle.reedtassel.specs.Returned.{encodedBy}
+use Rattle.answers.specs.Returned.{encodedBy}
 
 pub record EncodesForm (instruction out : List ℕ) (returned : ℤ) (left : List ℕ) : Type 0 where
   pub returns : returned ≡ encodedBy (encodedFrom instruction out)

@@ -1,4 +1,3 @@
-pub mod Returned
 pub mod DecodeAt
 pub mod EncodeForm
 pub mod Run

@@ -4,7 +4,7 @@ use mathlib.Core.Path.{_≡_}
 use mathlib.Core.List.{List}
 use lib.IntN.{ℤ}
 use Rattle.runbytes.specs.RunBytes.{Lent, endingOf, Leaves}
-use Rattle.reedtassel.specs.Returned.{endedBy}
+use Rattle.answers.specs.Returned.{endedBy}
 
 pub record RunsBytes (l : Lent) (returned : ℤ) (registers records answer : List ℕ) : Type 0 where
   pub returns : returned ≡ endedBy (endingOf l)

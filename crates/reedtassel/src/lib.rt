@@ -5,8 +5,7 @@ ghost use Rattle.reedtassel.specs.EncodeForm.{EncodesForm};
 ghost use Rattle.runbytes.specs.RunBytes.{lentOf};
 ghost use Rattle.reedtassel.specs.Run.{RunsBytes};
 
-mod returned;
-
+use answers::returned;
 use bits::piece;
 use isa::answer::Decoded;
 use isa::answer::Refusal;

@@ -16,22 +16,19 @@ use borrow.Author.Tests.{eqb-true, eq-eqb, le-leb}
 use Rattle.bits.specs.Word.{le, bytesOf}
 use Rattle.bits.proofs.Laws.{Bytes, bytes-take, bytes-le, le-lt, pow-bytes}
 use Rattle.bits.proofs.Masks.{and-assoc, fixed-field}
-use Rattle.bits.proofs.Table.{all, all-at, left, right}
+use Rattle.bits.proofs.Table.{all, all-at, left, right, and-right}
 use Rattle.isa.specs.Diagram.{Diagram, Field, widthOf, fixedMask, fixedValue, fieldIn, readBy}
 use Rattle.isa.specs.Rows.{rows}
 use Rattle.isa.specs.Find.{Form, forms, matches, findOf}
 use Rattle.isa.specs.Decode.{rowAt, noDiagram, readAt, decodedOf, readFound, decodeOf}
-use Rattle.isa.specs.Place.{placeOf}
+use Rattle.isa.specs.Parts.{placeOf, partsOf, lengthBy, lengthFor}
 use Rattle.isa.specs.declared.answer.Find.{Find}
 use Rattle.isa.specs.declared.answer.Reading.{Reading}
 use Rattle.isa.specs.declared.answer.Decoded.{Decoded}
 use Rattle.isa.specs.declared.instruction.Instruction.{Instruction}
-use Rattle.isa.proofs.Forms.{and-right}
 use Rattle.isa.proofs.Found.{Matched, found-form, only-form, found-length}
 use Rattle.isa.proofs.Placed.{length-rows, place-below, found-place}
 use Rattle.isa.proofs.WasRead.{Reads}
-use Rattle.parts.specs.Parts.{partsOf, lengthBy, lengthFor}
-use Rattle.parts.proofs.Kind.{kind-of}
 use Rattle.writing.specs.Write.{wordFor}
 use Rattle.encode.specs.Encode.{lengthOf, bytesFor}
 use Rattle.roundtrip.proofs.Words.{whole, all-whole, word-again}
@@ -181,11 +178,9 @@ module _ (s : List ℕ) (hs : Bytes s) (i : Instruction) (n : ℕ) (e : decodeOf
   pub length-back : lengthOf i ≡ n
   unfolding lengthFor
   length-back =
-      let g = kind-of i in
-      let k : partsOf i .kind - 1 ≡ p = omega arith in
       let l : bitL (rowAt p) w ≡ bitL (rowAt p) (f .value) =
             sym (covered-field (rowAt p .fields) w (f .mask) "L" (row .fixes)) ∙ ap (bitL (rowAt p)) agreed in
-      ap₂ (λ (q x : ℕ). lengthBy (rowAt q) x) k (told .2 ∙ l) ∙ row .long ∙ of-form .3
+      ap (lengthBy (rowAt p)) (told .2 ∙ l) ∙ row .long ∙ of-form .3
 
   -- its bytes are those that were decoded
   pub bytes-back : bytesFor i ≡ take n s

@@ -13,9 +13,9 @@ use Rattle.isa.specs.Decode.{decodeOf}
 use Rattle.isa.specs.declared.answer.Decoded.{Decoded}
 use Rattle.isa.specs.declared.answer.Encoded.{Encoded}
 use Rattle.isa.proofs.Examples.{Example, examples}
-use Rattle.parts.specs.Parts.{partsOf, lengthFor}
-use Rattle.writing.specs.Write.{fieldsFor, keptOf, wordFor}
-use Rattle.encode.specs.Encode.{accepts, encodedOf, leftBy}
+use Rattle.isa.specs.Parts.{partsOf, lengthFor, keptOf}
+use Rattle.writing.specs.Write.{fieldsFor, wordFor}
+use Rattle.encode.specs.Encode.{accepts, encodedOf, encodingLeft}
 
 pub record Written : Type 0 where
   pub answer : Encoded
@@ -26,7 +26,7 @@ abbrev room : List ℕ
 room = 0xFF ∷ 0xFF ∷ 0xFF ∷ 0xFF ∷ 0xFF ∷ 0xFF ∷ 0xFF ∷ 0xFF ∷ []
 
 abbrev encoded : Decoded → Option Written
-encoded (Decoded.Found i n) = some (record { answer = encodedOf i room; buffer = leftBy i room })
+encoded (Decoded.Found i n) = some (record { answer = encodedOf i room; buffer = encodingLeft i room })
 encoded (Decoded.Refused r) = none
 
 -- the example's own bytes, and the rest of the buffer as it was
@@ -36,5 +36,5 @@ itself (Decoded.Refused r) code = none
 
 -- the statement over the list, closed by computation
 pub examples-again : map (λ (e : Example). encoded (e .answer)) examples ≡ map (λ (e : Example). itself (e .answer) (e .code)) examples
-unfolding rows forms decodeOf destinationOf sourceOf uniformOf unary binary withDst withBinary partsOf lengthFor fieldsFor keptOf wordFor accepts encodedOf leftBy
+unfolding rows forms decodeOf destinationOf sourceOf uniformOf unary binary withDst withBinary partsOf lengthFor fieldsFor wordFor accepts encodedOf encodingLeft
 examples-again = refl

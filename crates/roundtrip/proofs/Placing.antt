@@ -13,7 +13,7 @@ use Rattle.bits.proofs.Table.{all, left, right}
 use Rattle.isa.specs.Diagram.{Diagram, Field, widthOf, spanMask, mask, fixedValue}
 use Rattle.isa.specs.Rows.{rows}
 use Rattle.writing.specs.Write.{Named, numberIn, put, over, wordBy}
-use Rattle.roundtrip.specs.Reasons.{Within}
+use Rattle.roundtrip.specs.Reasons.{FieldsWithin}
 use Rattle.roundtrip.proofs.Words.{Agree, inWord}
 
 -- what a mask cuts out of two numbers together
@@ -71,7 +71,7 @@ disjoint [] = true
 disjoint (f ∷ fs) = all (off (spanMask (f .at))) fs && disjoint fs
 
 -- fields away from the mask m do not change what it cuts out
-untouched : (x m : ℕ) (fs : List Field) (ns : List Named) → T (all inWord fs) → T (all (off m) fs) → Within fs ns
+untouched : (x m : ℕ) (fs : List Field) (ns : List Named) → T (all inWord fs) → T (all (off m) fs) → FieldsWithin fs ns
     → bitAnd (over x fs ns) m ≡ bitAnd x m
 untouched x m [] ns t o h = refl
 untouched x m (f ∷ fs) ns t o h =
@@ -98,7 +98,7 @@ settled-on x g (f ∷ fs) ns t h o s =
     (ap (λ (y : ℕ). bitOr y (partOf f ns)) e ∙ s .0, settled-on x g fs ns t h (right (off (spanMask (g .at)) f) _ o) (s .1))
 
 -- the word of the fields over such a word has each of them
-has-fields : (x : ℕ) (fs : List Field) (ns : List Named) → T (all inWord fs) → T (disjoint fs) → Within fs ns → Settled x fs ns
+has-fields : (x : ℕ) (fs : List Field) (ns : List Named) → T (all inWord fs) → T (disjoint fs) → FieldsWithin fs ns → Settled x fs ns
     → Agree (over x fs ns) fs ns
 has-fields x [] ns t d h s = tt
 has-fields x (f ∷ fs) ns t d h s =
@@ -151,7 +151,7 @@ settled kept fixed m (f ∷ fs) ns e o c =
     (ap (λ (y : ℕ). bitOr y (partOf f ns)) z ∙ or-zero-l (partOf f ns),
       settled kept fixed m fs ns e (right (off m f) _ o) (right (off fixed f) _ c))
 
-module _ (r : Diagram) (t : T (separate r)) (ns : List Named) (kept : ℕ) (h : Within (r .fields) ns) (k : bitAnd kept (mask (r .unknowns)) ≡ kept) where
+module _ (r : Diagram) (t : T (separate r)) (ns : List Named) (kept : ℕ) (h : FieldsWithin (r .fields) ns) (k : bitAnd kept (mask (r .unknowns)) ≡ kept) where
   inside : T (all inWord (r .fields))
   inside = left (all inWord (r .fields)) _ t
 

@@ -15,15 +15,15 @@ use Rattle.isa.specs.Decode.{decodeOf}
 use Rattle.isa.specs.declared.answer.Decoded.{Decoded}
 use Rattle.isa.specs.declared.answer.Encoded.{Encoded}
 use Rattle.isa.specs.declared.instruction.Instruction.{Instruction}
-use Rattle.isa.proofs.Forms.{and-left, and-right}
-use Rattle.parts.specs.Parts.{same}
+use Rattle.bits.proofs.Table.{and-left, and-right}
+use Rattle.isa.specs.Parts.{same}
 use Rattle.parts.proofs.Back.{same-is, same-self}
 use Rattle.form.specs.Fits.{Fits}
 use Rattle.form.specs.Form.{formOf}
 use Rattle.form.specs.declared.Spelled.{Spelled}
 use Rattle.form.proofs.Form.{form-spelled}
 use Rattle.writing.specs.Write.{wordFor}
-use Rattle.encode.specs.Encode.{lengthOf, bytesFor, isFound, accepts, encodedOf, leftBy, encodedSpelled, leftSpelled, encodedFrom, leftFrom}
+use Rattle.encode.specs.Encode.{lengthOf, bytesFor, isFound, accepts, encodedOf, encodingLeft, encodedSpelled, leftSpelled, encodedFrom, leftFrom}
 use Rattle.roundtrip.proofs.Back.{length-back, bytes-back, first-decodes}
 
 -- ---- decode, then encode
@@ -37,8 +37,8 @@ decoded-accepted s hs i n e =
 
 -- encoding it into a buffer with room answers n, and leaves the first n bytes again and nothing after them changed
 pub decode-encode : (s : List ℕ) → Bytes s → (i : Instruction) (n : ℕ) → decodeOf s ≡ Decoded.Found i n → (out : List ℕ) → n ≤ length out
-    → (encodedOf i out ≡ Encoded.Wrote n) × (leftBy i out ≡ take n s ++ drop n out)
-unfolding encodedOf leftBy
+    → (encodedOf i out ≡ Encoded.Wrote n) × (encodingLeft i out ≡ take n s ++ drop n out)
+unfolding encodedOf encodingLeft
 decode-encode s hs i n e out h =
     let a = decoded-accepted s hs i n e in
     let l = length-back s hs i n e in
@@ -60,12 +60,12 @@ unfolding accepts
 accepted-decodes i e = is-found (decodeOf (bytesFor i)) i (lengthOf i) e
 
 abbrev Wrote : Instruction → List ℕ → Encoded → Type 0
-Wrote i out (Encoded.Wrote n) = (accepts i ≡ true) × (n ≡ lengthOf i) × (leftBy i out ≡ bytesFor i ++ drop n out)
+Wrote i out (Encoded.Wrote n) = (accepts i ≡ true) × (n ≡ lengthOf i) × (encodingLeft i out ≡ bytesFor i ++ drop n out)
 Wrote i out (Encoded.Refused r) = Unit {0}
 
 -- an answer that counts bytes comes from an instruction that is accepted, and its bytes stand in the buffer
 wrote : (i : Instruction) (out : List ℕ) → Wrote i out (encodedOf i out)
-unfolding encodedOf leftBy
+unfolding encodedOf encodingLeft
 wrote i out = go (accepts i) refl (leb (lengthOf i) (length out)) refl
   where
     go : (a : Bool) → accepts i ≡ a → (b : Bool) → leb (lengthOf i) (length out) ≡ b → Wrote i out (encodedOf i out)
@@ -75,7 +75,7 @@ wrote i out = go (accepts i) refl (leb (lengthOf i) (length out)) refl
 
 -- the bytes that encoding leaves, decoded alone, give the instruction back, with their number as its length
 pub encode-decode : (i : Instruction) (out : List ℕ) (n : ℕ) → encodedOf i out ≡ Encoded.Wrote n
-    → decodeOf (take n (leftBy i out)) ≡ Decoded.Found i n
+    → decodeOf (take n (encodingLeft i out)) ≡ Decoded.Found i n
 encode-decode i out n e =
     let q : Wrote i out (Encoded.Wrote n) = subst (Wrote i out) e (wrote i out) in
     let l : length (bytesFor i) ≡ n = length-bytesOf (lengthOf i) (wordFor i) ∙ sym (q .1) in
@@ -107,6 +107,6 @@ accepts-exactly i =
 -- ---- by way of the byte form
 
 -- encoding from the byte form of an instruction is encoding the instruction
-pub form-encode : (i : Instruction) → Fits i → (out : List ℕ) → (encodedFrom (formOf i) out ≡ encodedOf i out) × (leftFrom (formOf i) out ≡ leftBy i out)
+pub form-encode : (i : Instruction) → Fits i → (out : List ℕ) → (encodedFrom (formOf i) out ≡ encodedOf i out) × (leftFrom (formOf i) out ≡ encodingLeft i out)
 form-encode i h out =
     (ap (λ (x : Spelled). encodedSpelled x out) (form-spelled i h), ap (λ (x : Spelled). leftSpelled x out) (form-spelled i h))

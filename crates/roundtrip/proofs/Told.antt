@@ -27,8 +27,8 @@ use Rattle.isa.specs.declared.instruction.Compare.{Compare}
 use Rattle.isa.specs.declared.instruction.Instruction.{Instruction}
 use Rattle.isa.proofs.WasRead.{Reads, is-reads, on-dst, on-unary, on-binary, on-ternary, on-compared, on-condition, of-unary, of-binary, of-ternary, of-compared}
 use Rattle.isa.specs.declared.answer.Reading.{Reading}
-use Rattle.parts.specs.Parts.{partsOf}
-use Rattle.writing.specs.Write.{Named, _is_, ofUnary, ofBinary, ofBitfield, ofCompare, fieldsFor, keptOf}
+use Rattle.isa.specs.Parts.{partsOf, keptOf}
+use Rattle.writing.specs.Write.{Named, _is_, ofUnary, ofBinary, ofBitfield, ofCompare, fieldsFor}
 use Rattle.roundtrip.specs.Reasons.{Held, HoldsDst, HoldsSrc, HoldsUnary, HoldsBinary, HoldsTernary, HoldsCompare}
 use Rattle.roundtrip.proofs.Operands.{dst-told, src-told, joined-lt, cut-joined, cache-bit}
 use Rattle.roundtrip.proofs.Words.{Agree}
@@ -70,7 +70,7 @@ module _ (w : ℕ) where
   -- ---- Move Instructions
 
   mov16-told : Fixed (rowAt 0) w → Reads (Told (rowAt 0) w) (readBy (rowAt 0) w)
-  unfolding rows fieldsFor keptOf partsOf Held
+  unfolding rows fieldsFor partsOf Held
   mov16-told f =
       on-dst (Told (rowAt 0) w) _ _ λ d e.
       let q = dst-told w false 9 44 7 d e in
@@ -79,7 +79,7 @@ module _ (w : ℕ) where
       ((q .flags & q .low & refl & refl & q .high & tt), refl, refl, (_, _, joined-lt w 9 44, field-lt 7 2 (lit< tt), e, omega arith))
 
   mov32-told : Fixed (rowAt 1) w → Reads (Told (rowAt 1) w) (readBy (rowAt 1) w)
-  unfolding rows fieldsFor keptOf partsOf Held
+  unfolding rows fieldsFor partsOf Held
   mov32-told f =
       on-dst (Told (rowAt 1) w) _ _ λ d e.
       let q = dst-told w false 9 60 7 d e in
@@ -88,7 +88,7 @@ module _ (w : ℕ) where
       ((q .flags & q .low & refl & refl & q .high & tt), refl, refl, (_, _, joined-lt w 9 60, field-lt 7 2 (lit< tt), e, omega arith))
 
   get-sr-told : Reads (Told (rowAt 2) w) (readBy (rowAt 2) w)
-  unfolding rows fieldsFor keptOf partsOf Held
+  unfolding rows fieldsFor partsOf Held
   get-sr-told =
       on-dst (Told (rowAt 2) w) _ _ λ d e.
       let q = dst-told w false 9 28 7 d e in
@@ -105,7 +105,7 @@ module _ (w : ℕ) where
       (omega arith, omega arith)
 
   iadd-told : Reads (Told (rowAt 3) w) (readBy (rowAt 3) w)
-  unfolding rows fieldsFor keptOf partsOf Held
+  unfolding rows fieldsFor partsOf Held
   iadd-told =
       on-binary (Told (rowAt 3) w) _ _ λ o e.
       let r = of-binary _ _ _ o e in
@@ -121,7 +121,7 @@ module _ (w : ℕ) where
         (held-dst true 9 44 7 (o .d) (r .0), held-src true 16 42 22 (o .a) (r .1), held-src true 28 40 34 (o .b) (r .2)))
 
   imadd-told : Reads (Told (rowAt 4) w) (readBy (rowAt 4) w)
-  unfolding rows fieldsFor keptOf partsOf Held
+  unfolding rows fieldsFor partsOf Held
   imadd-told =
       on-ternary (Told (rowAt 4) w) _ _ λ o e.
       let r = of-ternary _ _ _ _ o e in
@@ -186,7 +186,7 @@ module _ (w : ℕ) where
   -- ---- Bit Manipulation Instructions
 
   bitop-told : Reads (Told (rowAt 12) w) (readBy (rowAt 12) w)
-  unfolding rows fieldsFor keptOf partsOf Held
+  unfolding rows fieldsFor partsOf Held
   bitop-told =
       on-binary (Told (rowAt 12) w) _ _ λ o e.
       let r = of-binary _ _ _ o e in
@@ -225,7 +225,7 @@ module _ (w : ℕ) where
   -- ---- Execution Mask Stack Instructions
 
   pop-exec-told : Reads (Told (rowAt 18) w) (readBy (rowAt 18) w)
-  unfolding rows fieldsFor keptOf partsOf Held
+  unfolding rows fieldsFor partsOf Held
   pop-exec-told =
       let l = field-lt 7 1 (lit< tt) in
       is-reads (Told (rowAt 18) w) _ ((cache-bit (fieldOf w 7 1) l & refl & tt), refl, refl, (_, l, refl))
@@ -257,7 +257,7 @@ plainly : {A : Type 0} {make : A → Instruction} {fields : A → List Named} {k
 plainly n k l h = record { named = n; keeps = k; unshortened = l; holds = h }
 
 pub rows-told : AllTold rows
-unfolding rows fieldsFor keptOf partsOf Held
+unfolding rows fieldsFor partsOf Held
 rows-told =
     mov16-told
     & mov32-told

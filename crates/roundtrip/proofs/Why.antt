@@ -19,7 +19,7 @@ use Rattle.isa.specs.Diagram.{Field, widthOf, mask, fixedValue}
 use Rattle.isa.specs.Refusal.{numberOf}
 use Rattle.isa.specs.Rows.{rows}
 use Rattle.isa.specs.Decode.{noDiagram, rowAt, readAt, decodedOf, readFound, decodeOf}
-use Rattle.isa.specs.Place.{placeOf}
+use Rattle.isa.specs.Parts.{partsOf, placeOf, keptOf}
 use Rattle.isa.specs.declared.operand.Dst.{Dst}
 use Rattle.isa.specs.declared.answer.Refusal.{Refusal}
 use Rattle.isa.specs.declared.answer.Find.{Find}
@@ -28,9 +28,10 @@ use Rattle.isa.specs.declared.answer.Decoded.{Decoded}
 use Rattle.isa.specs.declared.answer.Encoded.{Encoded}
 use Rattle.isa.specs.declared.instruction.Instruction.{Instruction}
 use Rattle.isa.proofs.Placed.{length-rows, place-below, found-place}
-use Rattle.writing.specs.Write.{Named, numberIn, put, fieldsFor, keptOf, wordFor}
-use Rattle.encode.specs.Encode.{lengthOf, bytesFor, accepts, answerBy, encodedOf, leftBy}
-use Rattle.roundtrip.specs.Reasons.{Held, HoldsDst, HoldsMov, Within, FieldsFit, KeptFits, NoAbsentBit, Finds, Encodable}
+use Rattle.writing.specs.Write.{Named, numberIn, put, fieldsFor, wordFor}
+use Rattle.encode.specs.Encode.{lengthOf, bytesFor, accepts, encodedOf, encodingLeft}
+use Rattle.answers.specs.Encoding.{answerBy}
+use Rattle.roundtrip.specs.Reasons.{Held, HoldsDst, HoldsMov, FieldsWithin, FieldsFit, KeptFits, NoAbsentBit, Finds, Encodable}
 use Rattle.roundtrip.proofs.Operands.{dst-back}
 use Rattle.roundtrip.proofs.Words.{Agree}
 use Rattle.roundtrip.proofs.Placing.{or-and, kept-off, separate, all-separate, clear, Settled, settled, has-kept, has-settled, has-clear}
@@ -41,7 +42,7 @@ use Rattle.roundtrip.proofs.Round.{accepted-decodes, decoded-accepted}
 -- ---- what is accepted has none of the reasons
 
 -- fields that a word has are within their widths
-within : (w : ℕ) (fs : List Field) (ns : List Named) → Agree w fs ns → Within fs ns
+within : (w : ℕ) (fs : List Field) (ns : List Named) → Agree w fs ns → FieldsWithin fs ns
 within w [] ns a = tt
 within w (f ∷ fs) ns a =
     (rw (a .0) (mod-lt (w / 2 ^ f .at .lo) (pow-pos (widthOf (f .at)))), within w fs ns (a .1))
@@ -101,7 +102,7 @@ module _ (d : Dst) (imm l kept : ℕ) (e : Encodable (Instruction.Mov32 d imm l 
       ap (λ (x : ℕ). x / 2) (dst-back false (h .0) (h .1) d (h .3) (h .4) .1) ∙ h .5
 
   mov32-settled : Settled (bitOr kept (fixedValue (rowAt 1 .fixeds))) (rowAt 1 .fields) ns
-  unfolding rows keptOf
+  unfolding rows partsOf
   mov32-settled =
       let k : bitAnd kept (mask (rowAt 1 .unknowns)) ≡ kept = e .kept in
       let z : bitAnd (bitOr kept 0x162) 0x180 ≡ 0x100 =
@@ -110,14 +111,14 @@ module _ (d : Dst) (imm l kept : ℕ) (e : Encodable (Instruction.Mov32 d imm l 
       & settled kept 0x162 (mask (rowAt 1 .unknowns)) (drop 1 (rowAt 1 .fields)) ns k tt tt
 
   mov32-has : Has (wordFor (Instruction.Mov32 d imm l kept)) (rowAt 1) ns kept
-  unfolding wordFor keptOf
+  unfolding wordFor partsOf
   mov32-has =
       let t = separate-row (Instruction.Mov32 d imm l kept) e in
       (has-settled (rowAt 1) t ns kept (e .fields) (e .kept) mov32-settled, has-kept (rowAt 1) t ns kept (e .fields) (e .kept))
 
 -- its word is read as the instruction
 reads : (i : Instruction) → Encodable i → readAt (placeOf i) (wordFor i) ≡ Reading.Is i
-unfolding rows fieldsFor keptOf Held
+unfolding rows fieldsFor Held partsOf
 reads (Instruction.Mov16 d imm l kept) e =
     let i = Instruction.Mov16 d imm l kept in
     mov16-again (wordFor i) d imm l kept (has i e tt) (any-place 0 d (e .held))
@@ -180,13 +181,13 @@ accepts-encodable i = (accepted-encodable i, encodable-accepted i)
 
 -- whatever the buffer is, the answer is 8 and it is left as it was
 abbrev pub Refused8 : Instruction → Type 0
-Refused8 i = (out : List ℕ) → (encodedOf i out ≡ Encoded.Refused Refusal.NoEncoding) × (leftBy i out ≡ out)
+Refused8 i = (out : List ℕ) → (encodedOf i out ≡ Encoded.Refused Refusal.NoEncoding) × (encodingLeft i out ≡ out)
 
 pub refused-for : (i : Instruction) → (Encodable i → ⊥) → Refused8 i
-unfolding encodedOf leftBy
+unfolding encodedOf encodingLeft
 refused-for i h out = go (accepts i) refl
   where
-    go : (b : Bool) → accepts i ≡ b → (encodedOf i out ≡ Encoded.Refused Refusal.NoEncoding) × (leftBy i out ≡ out)
+    go : (b : Bool) → accepts i ≡ b → (encodedOf i out ≡ Encoded.Refused Refusal.NoEncoding) × (encodingLeft i out ≡ out)
     go true e = absurd (h (accepted-encodable i e))
     go false e = (rw e, rw e)
 

@@ -8,7 +8,7 @@ use Rattle.isa.specs.Operand.{cacheHint, destinationOf, sourceOf, meansConditio
 use Rattle.isa.specs.Diagram.{Field, widthOf, mask}
 use Rattle.isa.specs.Find.{findOf}
 use Rattle.isa.specs.Decode.{rowAt}
-use Rattle.isa.specs.Place.{placeOf}
+use Rattle.isa.specs.Parts.{placeOf, keptOf}
 use Rattle.isa.specs.declared.operand.Hint.{Hint}
 use Rattle.isa.specs.declared.operand.Dst.{Dst}
 use Rattle.isa.specs.declared.operand.Src.{Src}
@@ -20,7 +20,7 @@ use Rattle.isa.specs.declared.operand.ReadSrc.{ReadSrc}
 use Rattle.isa.specs.declared.instruction.Compare.{Compare}
 use Rattle.isa.specs.declared.instruction.Instruction.{Instruction}
 use Rattle.isa.specs.declared.answer.Find.{Find}
-use Rattle.writing.specs.Write.{Named, fieldsFor, keptOf, numberIn, wordFor}
+use Rattle.writing.specs.Write.{Named, fieldsFor, numberIn, wordFor}
 use Rattle.encode.specs.Encode.{lengthOf, bytesFor}
 
 -- ---- an operand or condition that its place can't hold, or that 4 refuses
@@ -80,12 +80,12 @@ Held (Instruction.ElseIcmp x) = HoldsCompare x
 -- ---- a field too wide
 
 -- the numbers of the fields of a list are within their widths
-abbrev pub Within : List Field → List Named → Type 0
-Within [] ns = Unit {0}
-Within (f ∷ fs) ns = (numberIn ns (f .name) < 2 ^ widthOf (f .at)) × Within fs ns
+abbrev pub FieldsWithin : List Field → List Named → Type 0
+FieldsWithin [] ns = Unit {0}
+FieldsWithin (f ∷ fs) ns = (numberIn ns (f .name) < 2 ^ widthOf (f .at)) × FieldsWithin fs ns
 
 abbrev pub FieldsFit : Instruction → Type 0
-FieldsFit i = Within (rowAt (placeOf i) .fields) (fieldsFor i)
+FieldsFit i = FieldsWithin (rowAt (placeOf i) .fields) (fieldsFor i)
 
 -- kept bits only where the diagram has "?"
 abbrev pub KeptFits : Instruction → Type 0

@@ -18,27 +18,27 @@ use Rattle.machine.specs.State.{State}
 use Rattle.machine.specs.Step.{Going, to, nowhere, taken, landing, goingOf, goTo, Step, Stepped, accepted, refused}
 use Rattle.machine.specs.Step.{registersReach, specialsReach, stepBy, stepOf}
 
-abbrev Within : ℕ → Going → Type 0
-Within size (to address class) = address ≤ size
-Within size (nowhere r) = Unit {0}
+abbrev AddressWithin : ℕ → Going → Type 0
+AddressWithin size (to address class) = address ≤ size
+AddressWithin size (nowhere r) = Unit {0}
 
-landed : (size : ℕ) (z : ℤ) → Within size (landing size z)
+landed : (size : ℕ) (z : ℤ) → AddressWithin size (landing size z)
 landed size (pos target) = go (eqb (target % 2) 0) (leb target size) refl
   where
     go : (even inside : Bool) → leb target size ≡ inside
-        → Within size (cond (both even inside) (to target 4) (nowhere Refusal.BadTarget))
+        → AddressWithin size (cond (both even inside) (to target 4) (nowhere Refusal.BadTarget))
     go true true e = leb-true target size e
     go true false e = tt
     go false inside e = tt
 landed size (negsuc below) = tt
 
-gone : (m : Meaning) (size bytes address mask : ℕ) → address + bytes ≤ size → Within size (goingOf m size bytes address mask)
+gone : (m : Meaning) (size bytes address mask : ℕ) → address + bytes ≤ size → AddressWithin size (goingOf m size bytes address mask)
 unfolding goingOf
 gone (writes d a b c result) size bytes address mask h = h
 gone (masks a b result) size bytes address mask h = h
 gone (jumps any offset) size bytes address mask h = go (taken any mask)
   where
-    go : (b : Bool) → Within size (cond b (landing size (pos address +ℤ offset)) (to (address + bytes) 3))
+    go : (b : Bool) → AddressWithin size (cond b (landing size (pos address +ℤ offset)) (to (address + bytes) 3))
     go true = landed size (pos address +ℤ offset)
     go false = h
 
@@ -57,7 +57,7 @@ module _ (code : List ℕ) (tables : Tables) (s : State) (h : s .address ≤ len
       (gone (meaningOf i) (length code) n (s .address) (s .threads .mask)
         (omega (arith, found-length (drop (s .address) code) i n e, length-drop (s .address) code)))
     where
-      held : (a b : Bool) (g : Going) → Within (length code) g
+      held : (a b : Bool) (g : Going) → AddressWithin (length code) g
           → Stays (length code) (cond a (cond b (goTo g i n tables s) (refused Refusal.NoSpecial)) (refused Refusal.NoRegister))
       held true true (to address class) w = w
       held true true (nowhere r) w = tt

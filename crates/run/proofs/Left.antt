@@ -26,11 +26,11 @@ abbrev pub roomBy : ℕ → List ℕ → List Step → List ℕ
 roomBy n room steps = take (16 * n) room ++ (recordsOf steps ++ drop (16 * (n + length steps)) room)
 
 -- a run after n steps, whose records stand in the room
-abbrev pub leftBy : ℕ → List ℕ → Run → Left
-leftBy n room r = leaves (r .ending) (n + length (r .steps)) (r .last) (roomBy n room (r .steps))
+abbrev pub leavesBy : ℕ → List ℕ → Run → Left
+leavesBy n room r = leaves (r .ending) (n + length (r .steps)) (r .last) (roomBy n room (r .steps))
 
 -- a run that ends leaves the room as it is
-pub left-end : (n : ℕ) (room : List ℕ) (e : Ending) (s : State) → leftBy n room (ends e s) ≡ leaves e n s room
+pub left-end : (n : ℕ) (room : List ℕ) (e : Ending) (s : State) → leavesBy n room (ends e s) ≡ leaves e n s room
 unfolding recordsOf
 left-end n room e s =
     let z : n + 0 ≡ n = omega arith in
@@ -78,7 +78,7 @@ module _ (n : ℕ) (room : List ℕ) (step : Step) (h : 16 * n + 16 ≤ length r
       ∙ ap (λ (x : List ℕ). take (16 * n) room ++ x)
         (sym (append-assoc (recordOf step) (recordsOf steps) (drop (16 * (n + suc k)) room)))
 
-  pub left-after : (rest : Run) → leftBy (n + 1) (sets room (16 * n) (recordOf step)) rest ≡ leftBy n room (after step rest)
+  pub left-after : (rest : Run) → leavesBy (n + 1) (sets room (16 * n) (recordOf step)) rest ≡ leavesBy n room (after step rest)
   unfolding put
   left-after rest =
       let z : n + 1 + length (rest .steps) ≡ n + suc (length (rest .steps)) = omega arith in
@@ -86,7 +86,7 @@ module _ (n : ℕ) (room : List ℕ) (step : Step) (h : 16 * n + 16 ≤ length r
       λ i. leaves (rest .ending) (z i) (rest .last) (q i)
 
 -- a run after no step leaves its steps' records and the rest of the room
-pub left-whole : (room : List ℕ) (r : Run) → leftBy 0 room r ≡ leaves (r .ending) (length (r .steps)) (r .last) (roomAfter (r .steps) room)
+pub left-whole : (room : List ℕ) (r : Run) → leavesBy 0 room r ≡ leaves (r .ending) (length (r .steps)) (r .last) (roomAfter (r .steps) room)
 unfolding roomAfter
 left-whole room r =
     let z : 0 + length (r .steps) ≡ length (r .steps) = omega arith in

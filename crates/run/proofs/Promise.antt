@@ -12,15 +12,15 @@ use Rattle.machine.specs.declared.answer.Answer.{Answer}
 use Rattle.machine.proofs.Runs.{badly-arranged}
 use Rattle.threads.proofs.Theorem.{by-themselves}
 use Rattle.run.specs.Ran.{Ran}
-use Rattle.run.proofs.Left.{Left, leaves, leftBy, left-end, left-whole}
-use Rattle.run.proofs.Lengths.{arrangedIn, arranged-in}
+use Rattle.run.proofs.Left.{Left, leaves, leavesBy, left-end, left-whole}
+use Rattle.sizes.proofs.Lengths.{arrangedIn, arranged-in}
 
 abbrev pub answer : Ending → ℕ → ℕ → ℕ → Answer
 answer ending steps address mask = record { ending = ending; steps = steps; address = address; mask = mask }
 
 -- an answer, registers and a record room that are what the run leaves
 pub promised : (c : Call) → c .mask < 2 ^ 32 → (ending : Ending) (steps address mask : ℕ) (registers room : List ℕ)
-    → leaves ending steps (stateAt (threadsAt registers mask) address) room ≡ leftBy 0 (c .records) (runOf c)
+    → leaves ending steps (stateAt (threadsAt registers mask) address) room ≡ leavesBy 0 (c .records) (runOf c)
     → Ran c (answer ending steps address mask) registers room
 unfolding answerOf
 promised c h ending steps address mask registers room e =
@@ -41,4 +41,4 @@ at-bad-size {c} h t e f =
     let a : arranged c ≡ false = sym (e ∙ arranged-in c) ∙ not-true t f in
     promised c h (Ending.Refused Refusal.BadSize) 0 (c .start) (c .mask) (c .registers) (c .records)
     (sym (left-end 0 (c .records) (Ending.Refused Refusal.BadSize) (startOf c))
-      ∙ ap (leftBy 0 (c .records)) (sym (badly-arranged c a)))
+      ∙ ap (leavesBy 0 (c .records)) (sym (badly-arranged c a)))

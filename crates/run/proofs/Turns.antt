@@ -22,8 +22,8 @@ use Rattle.step.specs.declared.Turn.{Turn}
 use Rattle.step.specs.Told.{goes, stops, told, toldBy}
 use Rattle.run.specs.Ran.{Ran}
 use Rattle.run.proofs.Inside.{step-inside}
-use Rattle.run.proofs.Left.{leftBy, left-end, left-after}
-use Rattle.run.proofs.Lengths.{arrangedIn, arranged-in}
+use Rattle.run.proofs.Left.{leavesBy, left-end, left-after}
+use Rattle.sizes.proofs.Lengths.{arrangedIn, arranged-in}
 use Rattle.run.proofs.Promise.{answer, promised}
 
 -- ---- what a run is at its end and before a step
@@ -55,8 +55,8 @@ pub record OnWay (c : Call) (registers room : List ℕ) (address mask steps : �
   pub within : steps ≤ c .budget
   pub registersKept : length registers ≡ length (c .registers)
   pub roomKept : length room ≡ length (c .records)
-  pub toRun : leftBy steps room (runFrom (c .code) (tablesOf c) (c .budget - steps) (stateAt (threadsAt registers mask) address))
-      ≡ leftBy 0 (c .records) (runOf c)
+  pub toRun : leavesBy steps room (runFrom (c .code) (tablesOf c) (c .budget - steps) (stateAt (threadsAt registers mask) address))
+      ≡ leavesBy 0 (c .records) (runOf c)
 
 pub at-start : {c : Call} → c .mask < 2 ^ 32 → (t : Bool) → t ≡ arrangedIn c → not t ≡ false
     → OnWay c (c .registers) (c .records) (c .start) (c .mask) 0
@@ -80,7 +80,7 @@ module _ {c : Call} {registers room : List ℕ} {address mask steps : ℕ} (w : 
   ends-here : (ending : Ending) → runs (c .budget - steps) ≡ ends ending here → Ran c (answer ending steps address mask) registers room
   ends-here ending e =
       promised c (w .fits) ending steps address mask registers room
-      (sym (left-end steps room ending here) ∙ ap (leftBy steps room) (sym e) ∙ w .toRun)
+      (sym (left-end steps room ending here) ∙ ap (leavesBy steps room) (sym e) ∙ w .toRun)
 
   pub at-end : address ≡ length (c .code) → Ran c (answer Ending.Finished steps address mask) registers room
   at-end e = ends-here Ending.Finished (finishes (c .code) (tablesOf c) here (c .budget - steps) e)
@@ -141,8 +141,8 @@ module _ {c : Call} {registers room : List ℕ} {address mask steps : ℕ} (w : 
               registersKept = l ∙ w .registersKept;
               roomKept = ap length p ∙ length-sets room (16 * steps) made ∙ w .roomKept;
               toRun =
-                  ap₂ (λ (o : List ℕ) (s : State). leftBy (steps + 1) o (rest s)) f a
+                  ap₂ (λ (o : List ℕ) (s : State). leavesBy (steps + 1) o (rest s)) f a
                   ∙ left-after steps room step g (rest (step .after))
-                  ∙ ap (leftBy steps room) (sym (ap runs budget-left ∙ steps-on (c .code) (tablesOf c) here ahead step ne x))
+                  ∙ ap (leavesBy steps room) (sym (ap runs budget-left ∙ steps-on (c .code) (tablesOf c) here ahead step ne x))
                   ∙ w .toRun;
             }

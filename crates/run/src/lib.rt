@@ -1,8 +1,6 @@
 // A run: the 32 threads step in lockstep until the code is at its end, the budget is used up, or an instruction is refused.
 ghost use Rattle.run.specs.Ran.{Ran, callOf};
 
-pub mod sizes;
-
 use isa::answer::Refusal;
 use machine::answer::Answer;
 use machine::answer::Ending;
@@ -28,7 +26,7 @@ pub fn run(code: &[u8], registers: &mut [u32], uniforms: &[u32], specials: &[u32
                 return Answer { ending: Ending::Refused(r), steps, address, mask: active };
             }
             Turn::Goes { address: next, mask: after, bytes, class } => {
-                let record = step::record::record(address, bytes, class, active, after);
+                let record = records::record(address, bytes, class, active, after);
                 bits::piece::put(records, 16 * steps, &record);
                 address = next;
                 active = after;

@@ -1,4 +1,4 @@
--- The sizes in bytes and in words: when a call is taken, and that there is space for its words.
+-- The sizes in bytes and in words: when a call is callTaken, and that there is space for its words.
 use mathlib.Core.Path.{_≡_, refl, sym, ap, _∙_}
 use mathlib.Core.Bool.{Bool, true, false, not}
 use mathlib.Core.List.{List}
@@ -12,13 +12,14 @@ use Rattle.machine.specs.Meaning.{both}
 use Rattle.machine.specs.Run.{arranged}
 use Rattle.machine.specs.declared.answer.Ending.{Ending}
 use Rattle.machine.proofs.Sizes.{parts, sizes}
-use Rattle.run.specs.Sizes.{arrangedBy}
-use Rattle.run.proofs.Lengths.{arranged-in}
+use Rattle.sizes.specs.Sizes.{arrangedBy}
+use Rattle.sizes.proofs.Lengths.{arranged-in}
 use Rattle.words.proofs.Laws.{length-words}
-use Rattle.runbytes.specs.RunBytes.{Lent, callOf, answerLength, wholeWords, spelledBy, spelled, taken, endingOf, Ran}
+use Rattle.runbytes.specs.RunBytes.{Lent, spelledCall, spelled, callTaken, endingOf, RanOnBytes}
+use Rattle.sizes.specs.Lent.{answerLength, wholeWords, spelledBy}
 use Rattle.runbytes.specs.Space.{Space}
 
--- what is known of a call that is taken
+-- what is known of a call that is callTaken
 pub record Known (l : Lent) : Type 0 where
   pub registers-most : length (l .registers) / 4 ≤ 4096
   pub specials-most : length (l .specials) / 4 ≤ 8192
@@ -41,14 +42,14 @@ module _ (l : Lent) where
   arrangedIn = arrangedBy (length (l .code)) (registers / 4) (uniforms / 4) (specials / 4) (l .start) (l .budget) (length (l .records))
 
   -- the sizes by lengths are the sizes of the words
-  arranged-words : arrangedIn ≡ arranged (callOf l)
+  arranged-words : arrangedIn ≡ arranged (spelledCall l)
   arranged-words =
-      rw (← length-words (l .registers), ← length-words (l .uniforms), ← length-words (l .specials)) (arranged-in (callOf l))
+      rw (← length-words (l .registers), ← length-words (l .uniforms), ← length-words (l .specials)) (arranged-in (spelledCall l))
 
   abbrev Refused : Type 0
-  Refused = Ran l (Ending.Refused Refusal.BadSize) (l .registers) (l .records) (l .answer)
+  Refused = RanOnBytes l (Ending.Refused Refusal.BadSize) (l .registers) (l .records) (l .answer)
 
-  refused-with-1 : taken l ≡ false → Refused
+  refused-with-1 : callTaken l ≡ false → Refused
   unfolding endingOf
   refused-with-1 e = record { ends = rw e; leaves = record { registers-left = rw e; records-left = rw e; answer-left = rw e } }
 
@@ -65,14 +66,14 @@ module _ (l : Lent) where
     pub not-arranged : not a ≡ true → Refused
     unfolding spelled
     not-arranged h =
-        let b : arranged (callOf l) ≡ false = sym (g ∙ arranged-words) ∙ not-true a h in
+        let b : arranged (spelledCall l) ≡ false = sym (g ∙ arranged-words) ∙ not-true a h in
         refused-with-1 (rw (are-spelled, b))
 
     pub is-known : not a ≡ false → Known l
     unfolding spelled
     is-known h =
-        let b : arranged (callOf l) ≡ true = sym (g ∙ arranged-words) ∙ not-false a h in
-        let sized = sizes (callOf l) b in
+        let b : arranged (spelledCall l) ≡ true = sym (g ∙ arranged-words) ∙ not-false a h in
+        let sized = sizes (spelledCall l) b in
         let x = parts (wholeWords registers) _ are-spelled in
         let y = parts (wholeWords uniforms) _ (x .1) in
         let z = parts (wholeWords specials) _ (y .1) in

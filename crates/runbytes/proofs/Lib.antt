@@ -1,4 +1,3 @@
 pub mod Lengths
-pub mod Answers
 pub mod Runs
 pub mod Library

@@ -15,34 +15,35 @@ use Rattle.machine.proofs.Records.{nothing-written}
 use Rattle.machine.proofs.Sizes.{parts}
 use Rattle.words.specs.Spelling.{wordsOf, bytesFor}
 use Rattle.words.proofs.Laws.{bytes-words}
-use Rattle.runbytes.specs.RunBytes.{Lent, callOf, wholeWords, spelled, taken, endingOf, Leaves}
+use Rattle.runbytes.specs.RunBytes.{Lent, spelledCall, spelled, callTaken, endingOf, Leaves}
+use Rattle.sizes.specs.Lent.{wholeWords}
 
 module _ (l : Lent) (s : spelled l ≡ true) where
-  pub ends-alike : endingOf l ≡ answerOf (runOf (callOf l)) .ending
+  pub ends-alike : endingOf l ≡ answerOf (runOf (spelledCall l)) .ending
   unfolding endingOf answerOf
-  ends-alike = go (arranged (callOf l)) refl
+  ends-alike = go (arranged (spelledCall l)) refl
     where
-      go : (b : Bool) → arranged (callOf l) ≡ b → endingOf l ≡ runOf (callOf l) .ending
+      go : (b : Bool) → arranged (spelledCall l) ≡ b → endingOf l ≡ runOf (spelledCall l) .ending
       go true e = rw (s, e)
-      go false e = rw (s, e, badly-arranged (callOf l) e)
+      go false e = rw (s, e, badly-arranged (spelledCall l) e)
 
   module _ (bytes : Bytes (l .registers)) {registers records answer : List ℕ} (left : Leaves l registers records answer) where
-    pub registers-alike : registers ≡ bytesFor (registersLeft (callOf l))
+    pub registers-alike : registers ≡ bytesFor (registersLeft (spelledCall l))
     unfolding spelled
-    registers-alike = go (arranged (callOf l)) refl
+    registers-alike = go (arranged (spelledCall l)) refl
       where
-        go : (b : Bool) → arranged (callOf l) ≡ b → registers ≡ bytesFor (registersLeft (callOf l))
+        go : (b : Bool) → arranged (spelledCall l) ≡ b → registers ≡ bytesFor (registersLeft (spelledCall l))
         go true e = rw (s, e) at (left .registers-left)
         go false e =
             let whole = eqb-true (length (l .registers) % 4) 0 (parts (wholeWords (length (l .registers))) _ s .0) in
             let k : registers ≡ l .registers = rw (s, e) at (left .registers-left) in
-            k ∙ sym (bytes-words (l .registers) (length (l .registers) / 4) bytes (omega arith)) ∙ ap bytesFor (sym (nothing-written (callOf l) e .0))
+            k ∙ sym (bytes-words (l .registers) (length (l .registers) / 4) bytes (omega arith)) ∙ ap bytesFor (sym (nothing-written (spelledCall l) e .0))
 
-    pub records-alike : records ≡ recordsLeft (callOf l)
-    records-alike = go (arranged (callOf l)) refl
+    pub records-alike : records ≡ recordsLeft (spelledCall l)
+    records-alike = go (arranged (spelledCall l)) refl
       where
-        go : (b : Bool) → arranged (callOf l) ≡ b → records ≡ recordsLeft (callOf l)
+        go : (b : Bool) → arranged (spelledCall l) ≡ b → records ≡ recordsLeft (spelledCall l)
         go true e = rw (s, e) at (left .records-left)
         go false e =
             let k : records ≡ l .records = rw (s, e) at (left .records-left) in
-            k ∙ sym (nothing-written (callOf l) e .1)
+            k ∙ sym (nothing-written (spelledCall l) e .1)

@@ -1,4 +1,4 @@
--- What the calls gave, put together: a call that is taken, run on the words that its bytes spell.
+-- What the calls gave, put together: a call that is callTaken, run on the words that its bytes spell.
 use mathlib.Core.Path.{_≡_, refl, ap, _∙_}
 use mathlib.Core.List.{List, _++_}
 use Prim.Native.Nat.{ℕ}
@@ -9,9 +9,11 @@ use Rattle.machine.specs.declared.answer.Ending.{Ending}
 use Rattle.machine.specs.declared.answer.Answer.{Answer}
 use Rattle.run.specs.Ran as library
 use Rattle.words.specs.Spelling.{wordsOf, bytesFor}
-use Rattle.runbytes.specs.RunBytes.{Lent, callOf, answerLength, answerBytes, endingOf}
+use Rattle.runbytes.specs.RunBytes.{Lent, spelledCall, endingOf}
+use Rattle.answers.specs.Run.{answerBytes}
+use Rattle.sizes.specs.Lent.{answerLength}
 use Rattle.runbytes.specs.Space.{Space, RanIn}
-use Rattle.runbytes.proofs.Answers.{put-first}
+use Rattle.bits.proofs.Pieces.{put-first}
 
 module _ (l : Lent) {r u s : ℕ} (h : Space l r u s) where
   -- registers, uniforms and special registers in words; then the answer, registers and records that the run left, and what was made of them
@@ -22,7 +24,7 @@ module _ (l : Lent) {r u s : ℕ} (h : Space l r u s) where
       → RanIn l (a .ending) registers records answer words uw sw
   unfolding endingOf
   runs rw₀ uw sw er eu es a words records given registers bytes answer e f g =
-      let q : library.Ran (callOf l) a words records = rw (er, eu, es) at given in
+      let q : library.Ran (spelledCall l) a words records = rw (er, eu, es) at given in
       let t = h .is-taken in
       record {
         ran =

@@ -1,4 +1,4 @@
--- A call that is taken, with space for as many words as its bytes spell: what it asks for, and what it leaves there.
+-- A call that is callTaken, with space for as many words as its bytes spell: what it asks for, and what it leaves there.
 use Prim.Native.Nat.{ℕ, _*_, _≤_}
 use mathlib.Core.Path.{_≡_}
 use mathlib.Core.Bool.{true}
@@ -7,17 +7,18 @@ use lib.ListN.{length}
 use Rattle.machine.specs.Run.{registersLeft}
 use Rattle.machine.specs.declared.answer.Ending.{Ending}
 use Rattle.words.specs.Spelling.{wordsOf}
-use Rattle.runbytes.specs.RunBytes.{Lent, callOf, answerLength, taken, Ran}
+use Rattle.runbytes.specs.RunBytes.{Lent, spelledCall, callTaken, RanOnBytes}
+use Rattle.sizes.specs.Lent.{answerLength}
 
 pub record Space (l : Lent) (registers uniforms specials : ℕ) : Type 0 where
-  pub is-taken : taken l ≡ true
+  pub is-taken : callTaken l ≡ true
   pub registers-fit : length (l .registers) ≡ 4 * registers
   pub uniforms-fit : length (l .uniforms) ≡ 4 * uniforms
   pub specials-fit : length (l .specials) ≡ 4 * specials
   pub answer-fits : answerLength ≤ length (l .answer)
 
 pub record RanIn (l : Lent) (ending : Ending) (registers records answer r u s : List ℕ) : Type 0 where
-  pub ran : Ran l ending registers records answer
-  pub register-words : r ≡ registersLeft (callOf l)
+  pub ran : RanOnBytes l ending registers records answer
+  pub register-words : r ≡ registersLeft (spelledCall l)
   pub uniform-words : u ≡ wordsOf (l .uniforms)
   pub special-words : s ≡ wordsOf (l .specials)

@@ -1,16 +1,14 @@
 // A run whose registers, uniforms and special registers are lent as little-endian bytes.
 ghost use lib.ListN.{length};
-ghost use Rattle.runbytes.specs.RunBytes.{Ran, lentOf};
+ghost use Rattle.runbytes.specs.RunBytes.{RanOnBytes, lentOf};
 ghost use Rattle.runbytes.specs.Space.{Space, RanIn};
 
-mod answer;
-mod lent;
 
 use bits::piece;
 use isa::answer::Refusal;
 use machine::answer::Ending;
 
-// A call that is taken, with space for the words.
+// A call that is callTaken, with space for the words.
 fn run_in(code: &[u8], registers: &mut [u8], uniforms: &[u8], specials: &[u8], start: usize, mask: u32, budget: usize, records: &mut [u8], answer: &mut [u8], r: &mut [u32], u: &mut [u32], s: &mut [u32]) -> Ending
     requires { ⌜ Space (lentOf (now code) (now registers) (now uniforms) (now specials) start mask budget (now records) (now answer))
         (length (now r)) (length (now u)) (length (now s)) ⌝ }
@@ -22,23 +20,23 @@ fn run_in(code: &[u8], registers: &mut [u8], uniforms: &[u8], specials: &[u8], s
     words::load(specials, s);
     let a = run::run(code, r, u, s, start, mask, budget, records);
     words::store(r, registers);
-    let bytes = answer::bytes(a);
+    let bytes = answers::run::bytes(a);
     piece::put(answer, 0, &bytes);
     a.ending
 }
 
 // A run on the words that the bytes spell. Refused with 1, nothing is written. The words stand on the stack: 49 KiB.
 pub fn run(code: &[u8], registers: &mut [u8], uniforms: &[u8], specials: &[u8], start: usize, mask: u32, budget: usize, records: &mut [u8], answer: &mut [u8]) -> Ending
-    ensures { λ e. ⌜ Ran (lentOf (now (code .entry)) (now (registers .entry)) (now (uniforms .entry)) (now (specials .entry)) start mask budget (now (records .entry)) (now (answer .entry)))
+    ensures { λ e. ⌜ RanOnBytes (lentOf (now (code .entry)) (now (registers .entry)) (now (uniforms .entry)) (now (specials .entry)) start mask budget (now (records .entry)) (now (answer .entry)))
         e (now (registers .exit)) (now (records .exit)) (now (answer .exit)) ⌝ }
 {
     let n = registers.len() / 4;
     let m = uniforms.len() / 4;
     let k = specials.len() / 4;
-    if !lent::spelled(registers.len(), uniforms.len(), specials.len(), answer.len()) {
+    if !sizes::lent::spelled(registers.len(), uniforms.len(), specials.len(), answer.len()) {
         return Ending::Refused(Refusal::BadSize);
     }
-    if !run::sizes::arranged(code.len(), n, m, k, start, budget, records.len()) {
+    if !sizes::arranged(code.len(), n, m, k, start, budget, records.len()) {
         return Ending::Refused(Refusal::BadSize);
     }
     let mut r = [0u32; 4096];

@@ -11,7 +11,7 @@ use lib.IntN.{ℤ, pos, negsuc, negℤ, subℕ, _+ℤ_}
 use lib.Signed.{mag}
 use borrow.Author.Tests.{eqb-true, eqb-false, ltb-true, ltb-false, lt-ltb, le-ltb}
 use Rattle.machine.specs.Integer.{modulo, signExtend}
-use Rattle.action.specs.Operation.{Sized}
+use Rattle.operations.specs.Operation.{Sized}
 use Rattle.signs.specs.Signed.{signedOf}
 
 -- the difference of two naturals

@@ -4,7 +4,7 @@ ghost use Prim.Native.Nat.{ℕ, _/_, _<_, _^_};
 ghost use lib.Signed.{shrZ};
 ghost use Rattle.machine.specs.Integer.{modulo};
 ghost use Rattle.machine.specs.Meaning as meaning;
-ghost use Rattle.action.specs.Operation.{Sized};
+ghost use Rattle.operations.specs.Operation.{Sized};
 ghost use Rattle.signs.specs.Signed.{signedOf};
 
 // x, sign-extended from its bit size where signed is 1, modulo 2^64.

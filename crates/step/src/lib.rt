@@ -4,13 +4,11 @@ ghost use Prim.Native.Nat.{_≤_, _<_, _^_};
 ghost use lib.ListN.{length};
 ghost use Rattle.machine.specs.Step.{stepOf};
 ghost use Rattle.machine.specs.State.{threadsAt, stateAt};
-ghost use Rattle.action.specs.Action.{meaningBy, FittingBy};
+ghost use Rattle.operations.specs.Action.{meaningBy, FittingBy};
 ghost use Rattle.lanes.specs.Sources.{lent};
 ghost use Rattle.step.specs.Told.{told, toldBy, takenBy};
 
-pub mod record;
-
-use action::Action;
+use operations::action::Action;
 use going::Going;
 use isa::answer::Decoded;
 use isa::answer::Refusal;

@@ -8,14 +8,14 @@ ghost use mathlib.Core.Path.{_≡_};
 ghost use Prim.Native.Nat.{ℕ, _<_, _^_};
 ghost use Rattle.machine.specs.Integer.{modulo};
 ghost use Rattle.machine.specs.Meaning as meaning;
-ghost use Rattle.action.specs.Operation.{SizedBy, Within, sumOf};
-ghost use Rattle.action.specs.declared.operation.Operation.{Operation};
+ghost use Rattle.operations.specs.Operation.{SizedBy, ValuesWithin, sumOf};
+ghost use Rattle.operations.specs.declared.Operation.{Operation};
 use crate::flags::saturating;
 use crate::flags::signed;
 use crate::limits::limited;
 use crate::product::product;
 use crate::term::term;
-use action::operation::Sum;
+use operations::Sum;
 use signs::extend;
 
 // Its meaning does not look at a third operand.
@@ -35,7 +35,7 @@ pub fn iadd(o: Sum, a: u64, b: u64) -> u64
 
 // Where the sum is limited to 32 bits at most, the product may be cut short at 2^40, so that the sum is exact.
 pub fn imadd(o: Sum, a: u64, b: u64, c: u64) -> u64
-    requires { ⌜ SizedBy (Operation.Imadd o) × Within (Operation.Imadd o) a b c ⌝ }
+    requires { ⌜ SizedBy (Operation.Imadd o) × ValuesWithin (Operation.Imadd o) a b c ⌝ }
     ensures { λ r. ⌜ r ≡ modulo (meaning.imadd (sumOf o) a b c) 64 ⌝ }
 {
     let x = extend(a, o.asigned, o.asize);

@@ -2,7 +2,7 @@
 ghost use mathlib.Core.Path.{_≡_};
 ghost use lib.IntN.{pos, negℤ};
 ghost use Rattle.machine.specs.Integer.{limit, modulo, saturateInteger};
-ghost use Rattle.action.specs.Operation.{Sized};
+ghost use Rattle.operations.specs.Operation.{Sized};
 ghost use Rattle.signs.specs.Signed.{signedOf};
 
 // x, no less than -below and no more than high.

@@ -12,8 +12,7 @@ use Rattle.machine.specs.Lanes.{activeIn}
 use Rattle.machine.specs.Words.{Tables, valueOf, storeOf, wordAt}
 use Rattle.machine.specs.Meaning.{Meaning, writes, masks, jumps}
 use Rattle.machine.specs.State.{Threads}
-use Rattle.machine.specs.Step.{Result, r0l, ownR0l, writeThread, nextOf}
-use Rattle.machine.specs.Step.{gatherOf, sourceAt, writeAll, nextAt, maskAll, threadsAfter}
+use Rattle.machine.specs.Step.{Result, r0l, ownR0l, writeThread, nextOf, gatherOf, sourceAt, writeAll, nextAt, maskAll, threadsAfter}
 use Rattle.machine.specs.declared.input.Input.{Input}
 use Rattle.machine.proofs.Tab.{getD-tab}
 use Rattle.machine.proofs.Masks.{pack-bit}

@@ -2,7 +2,7 @@
 -- a name is the one that is found.
 use mathlib.Core.List.{List, _∷_}
 use Rattle.writing.specs.Write.{Named, _is_, joined}
-use Rattle.writing.specs.declared.operand.Numbers.{Numbers}
+use Rattle.flags.specs.declared.Numbers.{Numbers}
 
 abbrev pub asD : Numbers → List Named → List Named
 asD n fs = joined "Dx" "D" (n .v) ("Dt" is n .t ∷ fs)

@@ -1,23 +1,14 @@
--- The word in the shape of the code: the two numbers of an operand, and one layout for the diagrams that share it. The fields are
--- those of the first such diagram, and the fixed bits are given.
-use Prim.Native.Nat.{ℕ, _+_}
+-- The word in the shape of the code: one layout for the diagrams that share it. The fields are those of the first such diagram, and
+-- the fixed bits are given.
+use Prim.Native.Nat.{ℕ}
 use mathlib.Core.List.{[], _∷_}
 use lib.Bits.{bitOr}
 use Rattle.isa.specs.Decode.{rowAt}
-use Rattle.isa.specs.declared.operand.Dst.{Dst}
-use Rattle.isa.specs.declared.operand.Src.{Src}
 use Rattle.isa.specs.declared.instruction.Bitfield.{Bitfield}
 use Rattle.isa.specs.declared.instruction.Shift.{Shift}
 use Rattle.isa.specs.declared.instruction.Scan.{Scan}
 use Rattle.isa.specs.declared.instruction.Compare.{Compare}
-use Rattle.writing.specs.Write.{dstNumber, dstFlags, srcNumber, srcFlags, cacheBit, ofUnary, ofBinary, ofBitfield, ofCompare, over, _is_}
-use Rattle.writing.specs.declared.operand.Numbers.{Numbers}
-
-abbrev pub dstNumbers : Dst → Numbers
-dstNumbers d = record { v = dstNumber (d .destination); t = dstFlags (d .destination) + cacheBit (d .hint) }
-
-abbrev pub srcNumbers : Src → Numbers
-srcNumbers s = record { v = srcNumber (s .source); t = srcFlags (s .source) (s .hint) }
+use Rattle.writing.specs.Write.{ofUnary, ofBinary, ofBitfield, ofCompare, over, _is_}
 
 -- bfi, bfeil, extr, shlhi and shrhi
 abbrev pub bitfieldWord : ℕ → Bitfield → ℕ

@@ -8,10 +8,7 @@ use lib.Bits.{bitOr}
 use lib.Text.{eqt}
 use Rattle.isa.specs.Diagram.{Diagram, Field, fixedValue}
 use Rattle.isa.specs.Decode.{rowAt}
-use Rattle.isa.specs.Place.{placeOf}
-use Rattle.isa.specs.declared.operand.Destination.{Destination}
-use Rattle.isa.specs.declared.operand.Source.{Source}
-use Rattle.isa.specs.declared.operand.Hint.{Hint}
+use Rattle.isa.specs.Parts.{placeOf, keptOf}
 use Rattle.isa.specs.declared.operand.Dst.{Dst}
 use Rattle.isa.specs.declared.operand.Src.{Src}
 use Rattle.isa.specs.declared.operand.Unary.{Unary}
@@ -20,51 +17,7 @@ use Rattle.isa.specs.declared.operand.Ternary.{Ternary}
 use Rattle.isa.specs.declared.instruction.Bitfield.{Bitfield}
 use Rattle.isa.specs.declared.instruction.Compare.{Compare}
 use Rattle.isa.specs.declared.instruction.Instruction.{Instruction}
-
--- ---- operands: the joined number v and the flags t
-
--- Dt bit 0. A destination has no discard: 2 is more than the bit can say
-abbrev pub cacheBit : Hint → ℕ
-cacheBit Hint.None = 0
-cacheBit Hint.Cache = 1
-cacheBit Hint.Discard = 2
-
-abbrev pub dstNumber : Destination → ℕ
-dstNumber (Destination.Half x) = x
-dstNumber (Destination.Register r) = 2 * r
-dstNumber (Destination.Pair r) = 2 * r + 1
-
-abbrev pub dstFlags : Destination → ℕ
-dstFlags (Destination.Half x) = 0
-dstFlags (Destination.Register r) = 2
-dstFlags (Destination.Pair r) = 2
-
--- the low two flags of a register that is read: 01 none, 10 cache, 11 discard
-abbrev pub hintBits : Hint → ℕ
-hintBits Hint.None = 1
-hintBits Hint.Cache = 2
-hintBits Hint.Discard = 3
-
--- of a uniform the low byte
-abbrev pub srcNumber : Source → ℕ
-srcNumber (Source.Half x) = x
-srcNumber (Source.Register r) = 2 * r
-srcNumber (Source.Pair r) = 2 * r
-srcNumber (Source.UniformHalf x) = x % 256
-srcNumber (Source.UniformRegister r) = 2 * r % 256
-srcNumber (Source.UniformPair r) = (2 * r + 1) % 256
-srcNumber (Source.Immediate x) = x
-
--- t3 t2: 00 a half or an immediate, 01 a uniform, 10 a register, 11 a pair. Of a uniform, t1 is 0 for a half, and t0 is the bit
--- above the low byte
-abbrev pub srcFlags : Source → Hint → ℕ
-srcFlags (Source.Half x) h = hintBits h
-srcFlags (Source.Register r) h = 8 + hintBits h
-srcFlags (Source.Pair r) h = 12 + hintBits h
-srcFlags (Source.UniformHalf x) h = 4 + x / 256
-srcFlags (Source.UniformRegister r) h = 6 + 2 * r / 256
-srcFlags (Source.UniformPair r) h = 6 + (2 * r + 1) / 256
-srcFlags (Source.Immediate x) h = 0
+use Rattle.flags.specs.Flags.{cacheBit, dstNumber, dstFlags, srcNumber, srcFlags}
 
 -- ---- the fields of an instruction, by name
 
@@ -142,31 +95,6 @@ fieldsFor (Instruction.PopExec h n kept) = "Dt" is cacheBit h ∷ "n" is n ∷ [
 fieldsFor (Instruction.IfIcmp x) = ofCompare x
 fieldsFor (Instruction.WhileIcmp x) = ofCompare x
 fieldsFor (Instruction.ElseIcmp x) = ofCompare x
-
--- the bits that were printed "?", each at its own place
-unfoldable pub keptOf : Instruction → ℕ
-keptOf (Instruction.Mov16 d imm16 l kept) = kept
-keptOf (Instruction.Mov32 d imm32 l kept) = kept
-keptOf (Instruction.GetSr d sr kept) = kept
-keptOf (Instruction.Iadd o s n sa sb shift kept) = kept
-keptOf (Instruction.Imadd o s n sa sb sc shift kept) = kept
-keptOf (Instruction.Bfi x) = x .kept
-keptOf (Instruction.Bfeil x) = x .kept
-keptOf (Instruction.Extr x) = x .kept
-keptOf (Instruction.Shlhi x) = x .kept
-keptOf (Instruction.Shrhi x) = x .kept
-keptOf (Instruction.Asr x) = x .kept
-keptOf (Instruction.Asrh x) = x .kept
-keptOf (Instruction.Bitop o tt0 tt1 tt2 tt3 kept) = kept
-keptOf (Instruction.Bitrev x) = x .kept
-keptOf (Instruction.Popcount x) = x .kept
-keptOf (Instruction.Ffs x) = x .kept
-keptOf (Instruction.JmpExecAny off) = 0
-keptOf (Instruction.JmpExecNone off) = 0
-keptOf (Instruction.PopExec h n kept) = kept
-keptOf (Instruction.IfIcmp x) = x .kept
-keptOf (Instruction.WhileIcmp x) = x .kept
-keptOf (Instruction.ElseIcmp x) = x .kept
 
 -- ---- the word
 

@@ -4,11 +4,9 @@ ghost use mathlib.Core.Path.{_≡_};
 ghost use Rattle.writing.specs.Layout.{bitfieldWord, shiftWord, scanWord, jumpWord, compareWord};
 ghost use Rattle.writing.specs.Write.{wordFor};
 
-mod operand;
-
-use crate::operand::cache_bit;
-use crate::operand::of_dst;
-use crate::operand::of_src;
+use flags::cache_bit;
+use flags::of_dst;
+use flags::of_src;
 use isa::instruction::Bitfield;
 use isa::instruction::Compare;
 use isa::instruction::Instruction;

@@ -1,5 +1,6 @@
 use mathlib.Core.Path.{_∙_}
-use Rattle.decode.proofs.Decoding.{within, decoded, decoded-at}
+use Rattle.finding.proofs.Found.{within}
+use Rattle.decode.proofs.Decoding.{decoded, decoded-at}
 use borrow.Author.Needs.{needs}
 use Rattle.decode.proofs.decode.Statement.{statement}
 use Rattle.decode.proofs.decode.Tie as tie

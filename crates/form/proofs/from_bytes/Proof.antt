@@ -29,22 +29,22 @@ instruction-from-requires c κs = search needs
 to-bytes-requires : tie.Need-to-bytes-requires
 to-bytes-requires c κs = search needs
 
-slice-aggregate-equal : tie.Need-slice-aggregate-equal
-slice-aggregate-equal c = search needs
+slice-aggregate-bytes : tie.Need-slice-aggregate-bytes
+slice-aggregate-bytes c = search needs
 
-equal-requires : tie.Need-equal-requires
-equal-requires c κs = search needs
+bytes-requires : tie.Need-bytes-requires
+bytes-requires c κs = search needs
 
 -- by the comparison of the bytes with the form of what was read
-by-form : (c : tie.After-equal)
-    → cond (c .equal .result) (Spelled.Is (c .before .before .before .instruction-from .result)) Spelled.None
+by-form : (c : tie.After-bytes)
+    → cond (c .bytes .result) (Spelled.Is (c .before .before .before .instruction-from .result)) Spelled.None
       ≡ spelledOf (c .before .before .before .before .before .before .before .before .before .args .b .now)
 by-form c =
     let form = c .before .before .to-bytes in
     let read = c .before .before .before in
     let known = read .before .before .before .before in
     compared (known .before .before .args .b .now) (known .if1 .left) (read .before .before .if2 .left) (read .before .if3 .left)
-    (read .instruction-from .result) (form .result) (c .equal .result) (read .instruction-from .ensures) (form .ensures .0) (c .equal .ensures)
+    (read .instruction-from .result) (form .result) (c .bytes .result) (read .instruction-from .ensures) (form .ensures .0) (c .bytes .ensures)
 
 returns-4 : tie.Need-returns-4
 returns-4 c = rw (c .if4 .taken) at (by-form (c .before))
@@ -62,7 +62,7 @@ from-bytes-spec =
     returns-3
     instruction-from-requires
     to-bytes-requires
-    slice-aggregate-equal
-    equal-requires
+    slice-aggregate-bytes
+    bytes-requires
     returns-4
     returns-5)

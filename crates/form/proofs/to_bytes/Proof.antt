@@ -1,5 +1,5 @@
 use mathlib.Core.Path.{_≡_, ap, ap₂, _∙_}
-use Rattle.parts.specs.Parts.{lengthFor}
+use Rattle.isa.specs.Parts.{lengthFor}
 use Rattle.form.specs.Form.{formOf, spelledOf}
 use Rattle.layout.specs.Lay.{layWith}
 use Rattle.form.proofs.Typed.{instruction-fits}

@@ -3,7 +3,8 @@ use mathlib.Core.Path.{refl, _∙_}
 use mathlib.Core.List.{_++_}
 use Prim.Native.Nat.{_+_}
 use Rattle.isa.specs.Text.{ascii}
-use Rattle.lines.specs.Line.{hexAddress, endLine}
+use Rattle.lines.specs.Line.{endLine}
+use Rattle.hex.specs.Hex.{hexAddress}
 use Rattle.bits.proofs.Pieces.{after}
 use borrow.Author.Needs.{needs}
 use Rattle.lines.proofs.put_end.Statement.{statement}

@@ -6,11 +6,10 @@ use native.Mathlib.Omega.{arith}
 use lib.ListN.{length}
 use lib.Seq.{sets}
 use Rattle.isa.specs.Text.{ascii}
-use Rattle.isa.specs.Place.{placeOf}
-use Rattle.lines.specs.Line.{hexAddress, hexBytes, tailAt, lineOf}
+use Rattle.lines.specs.Line.{tailAt, lineAt}
+use Rattle.hex.specs.Hex.{hexAddress, hexBytes}
 use Rattle.bits.proofs.Pieces.{after}
 use Rattle.lines.proofs.Lengths.{length-hexBytes}
-use Rattle.isa.proofs.Placed.{place-below}
 use borrow.Author.Needs.{needs}
 use Rattle.lines.proofs.put_line.Statement.{statement}
 use Rattle.lines.proofs.put_line.Tie as tie
@@ -33,35 +32,27 @@ mul-put-tail c = search needs
 add-put-tail-2 : tie.Need-add-put-tail-2
 add-put-tail-2 c = search needs
 
-place-requires : tie.Need-place-requires
-place-requires c κs = search needs
-
 put-tail-requires : tie.Need-put-tail-requires
-put-tail-requires c κs =
-    let i = c .before .before .before .before .before .before .before .before .before .before .before .before .args .i in
-    let e = c .place .ensures in
-    let l : length (tailAt (c .place .result)) ≡ length (tailAt (placeOf i)) = ap (λ (p : ℕ). length (tailAt p)) e in
-    (rw e (place-below i), omega arith)
+put-tail-requires c κs = search needs
 
 same-length : tie.Need-same-length
 same-length c = search needs
 
 returns : tie.Need-returns
-unfolding lineOf
+unfolding lineAt
 returns c =
-    let p = c .before .before .before .before .before .before .before .before .before .before .before in
+    let p = c .before .before .before .before .before .before .before .before .before .before in
     let a = p .before .before .before .before .args in
     let text = a .text .now in
     let s = a .bytes .now in
     let u = p .put-address in
-    let v = c .before .before .before .before .before .before .before .put-bytes in
+    let v = c .before .before .before .before .before .before .put-bytes in
     let address = hexAddress (a .at) ++ ascii " " in
     let m = a .n + 5 + 2 * length s in
     let l = length-hexBytes s in
     let e = after address (hexBytes s) (address ++ hexBytes s) text (u .last .0) (a .n) (a .n + 5) (u .ensures) refl refl in
     c .before .before .put-tail .ensures
-    ∙ ap (λ (p : ℕ). sets (v .last .0) m (tailAt p)) (c .before .before .before .place .ensures)
-    ∙ after (address ++ hexBytes s) (tailAt (placeOf (a .i))) (lineOf (a .at) s (a .i)) text (v .last .0) (a .n) m
+    ∙ after (address ++ hexBytes s) (tailAt (a .place)) (lineAt (a .at) s (a .place)) text (v .last .0) (a .n) m
     (v .ensures ∙ e) (omega arith) refl
 
 pub put-line-spec : {M : Type 1} → statement M
@@ -74,7 +65,6 @@ put-line-spec =
     add-put-tail
     mul-put-tail
     add-put-tail-2
-    place-requires
     put-tail-requires
     same-length
     returns)

@@ -6,7 +6,8 @@ use native.Mathlib.Omega.{arith}
 use lib.Seq.{sets}
 use Rattle.isa.specs.Text.{ascii}
 use Rattle.isa.specs.Refusal.{numberOf}
-use Rattle.lines.specs.Line.{digit, hexAddress, refusedLine}
+use Rattle.lines.specs.Line.{refusedLine}
+use Rattle.hex.specs.Hex.{digit, hexAddress}
 use Rattle.bits.proofs.Pieces.{after}
 use Rattle.lines.proofs.Lengths.{number-below}
 use borrow.Author.Needs.{needs}

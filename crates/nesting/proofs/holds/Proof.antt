@@ -7,11 +7,11 @@ use Rattle.nesting.proofs.Order.{same-comparison}
 use Rattle.nesting.proofs.holds.Statement.{statement}
 use Rattle.nesting.proofs.holds.Tie as tie
 
-place-requires : tie.Need-place-requires
-place-requires c κs = search needs
+rank-requires : tie.Need-rank-requires
+rank-requires c κs = search needs
 
-place-requires-2 : tie.Need-place-requires-2
-place-requires-2 c κs = search needs
+rank-requires-2 : tie.Need-rank-requires-2
+rank-requires-2 c κs = search needs
 
 compared-requires : tie.Need-compared-requires
 compared-requires c κs = search needs
@@ -24,8 +24,8 @@ unfolding holds
 returns c =
     let s = c .before .before .before .before .before .before in
     let o = s .args .o in
-    let x = c .before .before .before .before .place in
-    let y = c .before .before .before .place2 in
+    let x = c .before .before .before .before .rank in
+    let y = c .before .before .before .rank2 in
     let r = c .before .compared in
     let e =
       same-comparison (o .cc % 4) (o .cc / 4) (o .asize) (o .bsize) (s .args .a) (s .args .b) (x .result) (y .result) (r .result)
@@ -34,4 +34,4 @@ returns c =
 
 pub holds-spec : {M : Type 1} → statement M
 holds-spec =
-    tie.close (tie.spec place-requires place-requires-2 compared-requires turned-requires returns)
+    tie.close (tie.spec rank-requires rank-requires-2 compared-requires turned-requires returns)

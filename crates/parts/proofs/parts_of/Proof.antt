@@ -1,5 +1,5 @@
 -- Each arm of the match builds the parts of its case.
-use Rattle.parts.specs.Parts.{partsOf}
+use Rattle.isa.specs.Parts.{partsOf}
 use borrow.Author.Needs.{needs}
 use Rattle.parts.proofs.parts_of.Statement.{statement}
 use Rattle.parts.proofs.parts_of.Tie as tie

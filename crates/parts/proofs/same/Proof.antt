@@ -1,6 +1,7 @@
 use mathlib.Core.Path.{ap₂, _∙_}
-use Rattle.parts.specs.declared.Parts.{Parts}
-use Rattle.parts.specs.Parts.{numbersOf, eqList}
+use Rattle.isa.specs.declared.parts.Parts.{Parts}
+use Rattle.isa.specs.Parts.{numbersOf}
+use Rattle.bits.specs.Lists.{eqList}
 use borrow.Author.Needs.{needs}
 use Rattle.parts.proofs.same.Statement.{statement}
 use Rattle.parts.proofs.same.Tie as tie

@@ -1,6 +1,6 @@
 use borrow.Author.Needs.{needs}
 use mathlib.Core.Path.{_∙_}
-use Rattle.reedtassel.proofs.Numbers.{handed-on}
+use Rattle.answers.proofs.Numbers.{handed-on}
 use Rattle.reedtassel.proofs.Decoding.{past-the-code, no-room, small, found, refused}
 use Rattle.reedtassel.proofs.reedtassel_decode.Statement.{statement}
 use Rattle.reedtassel.proofs.reedtassel_decode.Tie as tie

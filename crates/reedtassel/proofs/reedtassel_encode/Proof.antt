@@ -1,7 +1,7 @@
 use borrow.Author.Needs.{needs}
 use mathlib.Core.Path.{ap, _∙_}
-use Rattle.reedtassel.proofs.Numbers.{handed-on}
-use Rattle.reedtassel.specs.Returned.{encodedBy}
+use Rattle.answers.proofs.Numbers.{handed-on}
+use Rattle.answers.specs.Returned.{encodedBy}
 use Rattle.reedtassel.proofs.Encoding.{count-small}
 use Rattle.reedtassel.proofs.reedtassel_encode.Statement.{statement}
 use Rattle.reedtassel.proofs.reedtassel_encode.Tie as tie

@@ -1,7 +1,7 @@
 use borrow.Author.Needs.{needs}
 use mathlib.Core.Path.{ap, _∙_}
-use Rattle.reedtassel.specs.Returned.{endedBy}
-use Rattle.reedtassel.proofs.Numbers.{handed-on}
+use Rattle.answers.specs.Returned.{endedBy}
+use Rattle.answers.proofs.Numbers.{handed-on}
 use Rattle.reedtassel.proofs.reedtassel_run.Statement.{statement}
 use Rattle.reedtassel.proofs.reedtassel_run.Tie as tie
 

@@ -6,9 +6,9 @@ use lib.ListN.{length}
 use denote.Ref.{now}
 use Rattle.machine.specs.State.{Threads, threadsAt, stateAt}
 use Rattle.machine.specs.Step.{registersReach, specialsReach, to, nowhere}
-use Rattle.action.specs.Action.{meaningBy}
+use Rattle.operations.specs.Action.{meaningBy}
 use Rattle.going.specs.declared.Going.{Going}
-use Rattle.going.specs.Place.{placeOf}
+use Rattle.going.specs.AsGoing.{asGoing}
 use Rattle.lanes.specs.Sources.{lent}
 use Rattle.step.specs.Told.{goes}
 use Rattle.step.proofs.Taken.{no-register, no-special, gone}
@@ -72,7 +72,7 @@ returns-3 c =
     let tables = lent (now (a .uniforms)) (now (a .specials)) in
     let h : registersReach (meaningBy (a .action)) ≤ length (now (a .registers)) / 32 = omega (arith, c .before .before .before .before .before .before .before .registers-reach .ensures) in
     let k : specialsReach (meaningBy (a .action)) ≤ length (now (a .specials)) / 32 = omega (arith, c .before .before .before .before .before .specials-reach .ensures) in
-    gone (meaningBy (a .action)) (a .bytes) (a .size) tables s h k _ (ap placeOf (sym (c .before .r .given .1)) ∙ c .before .before .before .goes-to .ensures)
+    gone (meaningBy (a .action)) (a .bytes) (a .size) tables s h k _ (ap asGoing (sym (c .before .r .given .1)) ∙ c .before .before .before .goes-to .ensures)
 
 -- src/lib.rt:30:1
 same-length : tie.Need-same-length
@@ -88,7 +88,7 @@ returns-4 c =
     let k : specialsReach (meaningBy (a .action)) ≤ length (now (a .specials)) / 32 = omega (arith, c .before .before .before .before .before .before .before .before .before .specials-reach .ensures) in
     let g = c .before .before .before .before .before .next .given in
     ap (λ (t : Threads). goes (a .bytes) (g .0 .1 .0) (stateAt t (g .0 .0))) (c .before .before .act .ensures)
-    ∙ gone (meaningBy (a .action)) (a .bytes) (a .size) tables s h k _ (ap placeOf (sym (g .1)) ∙ c .before .before .before .before .before .before .before .goes-to .ensures)
+    ∙ gone (meaningBy (a .action)) (a .bytes) (a .size) tables s h k _ (ap asGoing (sym (g .1)) ∙ c .before .before .before .before .before .before .before .goes-to .ensures)
 
 pub take-spec : {M : Type 1} → statement M
 take-spec =

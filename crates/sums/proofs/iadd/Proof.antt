@@ -6,7 +6,7 @@ use lib.IntN.{ℤ}
 use borrow.Author.Needs.{needs}
 use Rattle.machine.specs.Integer.{modulo, saturateInteger}
 use Rattle.machine.specs.Meaning.{extended, either, isSet}
-use Rattle.action.specs.Operation.{sumOf}
+use Rattle.operations.specs.Operation.{sumOf}
 use Rattle.signs.specs.Signed.{signedOf}
 use Rattle.sums.proofs.Distance.{natAbs-extended}
 use Rattle.sums.proofs.Results.{saturates-true, added, limited-word, iaddSum, iadd-is}

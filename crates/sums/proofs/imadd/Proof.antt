@@ -7,7 +7,7 @@ use lib.IntN.{ℤ, natAbs, _+ℤ_, _*ℤ_}
 use borrow.Author.Needs.{needs}
 use Rattle.machine.specs.Integer.{modulo, saturateInteger}
 use Rattle.machine.specs.Meaning.{extended, negated, scaled, either, isSet}
-use Rattle.action.specs.Operation.{sumOf}
+use Rattle.operations.specs.Operation.{sumOf}
 use Rattle.signs.specs.Signed.{signedOf}
 use Rattle.sums.specs.Capped.{capped}
 use Rattle.sums.proofs.Distance.{signed-near, natAbs-term, natAbs-extended}

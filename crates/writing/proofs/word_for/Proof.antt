@@ -1,6 +1,7 @@
 -- Each arm of the match writes by the layout of its case.
 use Rattle.isa.specs.Rows.{rows}
-use Rattle.writing.specs.Write.{wordFor, fieldsFor, keptOf}
+use Rattle.writing.specs.Write.{wordFor, fieldsFor}
+use Rattle.isa.specs.Parts.{partsOf}
 use borrow.Author.Needs.{needs}
 use Rattle.writing.proofs.word_for.Statement.{statement}
 use Rattle.writing.proofs.word_for.Tie as tie
@@ -153,69 +154,69 @@ returns-5 : tie.Need-returns-5
 returns-5 c = rw (c .before .before .i5 .given .1) (c .word-imadd .ensures)
 
 returns-6 : tie.Need-returns-6
-unfolding rows wordFor fieldsFor keptOf
+unfolding rows wordFor fieldsFor partsOf
 returns-6 c = rw (c .before .before .i6 .given .1) (c .word-bitfield .ensures)
 
 returns-7 : tie.Need-returns-7
-unfolding rows wordFor fieldsFor keptOf
+unfolding rows wordFor fieldsFor partsOf
 returns-7 c = rw (c .before .before .i7 .given .1) (c .word-bitfield2 .ensures)
 
 returns-8 : tie.Need-returns-8
-unfolding rows wordFor fieldsFor keptOf
+unfolding rows wordFor fieldsFor partsOf
 returns-8 c = rw (c .before .before .i8 .given .1) (c .word-bitfield3 .ensures)
 
 returns-9 : tie.Need-returns-9
-unfolding rows wordFor fieldsFor keptOf
+unfolding rows wordFor fieldsFor partsOf
 returns-9 c = rw (c .before .before .i9 .given .1) (c .word-bitfield4 .ensures)
 
 returns-10 : tie.Need-returns-10
-unfolding rows wordFor fieldsFor keptOf
+unfolding rows wordFor fieldsFor partsOf
 returns-10 c = rw (c .before .before .i10 .given .1) (c .word-bitfield5 .ensures)
 
 returns-11 : tie.Need-returns-11
-unfolding rows wordFor fieldsFor keptOf
+unfolding rows wordFor fieldsFor partsOf
 returns-11 c = rw (c .before .before .i11 .given .1) (c .word-shift .ensures)
 
 returns-12 : tie.Need-returns-12
-unfolding rows wordFor fieldsFor keptOf
+unfolding rows wordFor fieldsFor partsOf
 returns-12 c = rw (c .before .before .i12 .given .1) (c .word-shift2 .ensures)
 
 returns-13 : tie.Need-returns-13
 returns-13 c = rw (c .before .before .i13 .given .1) (c .word-bitop .ensures)
 
 returns-14 : tie.Need-returns-14
-unfolding rows wordFor fieldsFor keptOf
+unfolding rows wordFor fieldsFor partsOf
 returns-14 c = rw (c .before .before .i14 .given .1) (c .word-scan .ensures)
 
 returns-15 : tie.Need-returns-15
-unfolding rows wordFor fieldsFor keptOf
+unfolding rows wordFor fieldsFor partsOf
 returns-15 c = rw (c .before .before .i15 .given .1) (c .word-scan2 .ensures)
 
 returns-16 : tie.Need-returns-16
-unfolding rows wordFor fieldsFor keptOf
+unfolding rows wordFor fieldsFor partsOf
 returns-16 c = rw (c .before .before .i16 .given .1) (c .word-scan3 .ensures)
 
 returns-17 : tie.Need-returns-17
-unfolding rows wordFor fieldsFor keptOf
+unfolding rows wordFor fieldsFor partsOf
 returns-17 c = rw (c .before .before .i17 .given .1) (c .word-jump .ensures)
 
 returns-18 : tie.Need-returns-18
-unfolding rows wordFor fieldsFor keptOf
+unfolding rows wordFor fieldsFor partsOf
 returns-18 c = rw (c .before .before .i18 .given .1) (c .word-jump2 .ensures)
 
 returns-19 : tie.Need-returns-19
 returns-19 c = rw (c .before .before .i19 .given .1) (c .word-pop-exec .ensures)
 
 returns-20 : tie.Need-returns-20
-unfolding rows wordFor fieldsFor keptOf
+unfolding rows wordFor fieldsFor partsOf
 returns-20 c = rw (c .before .before .i20 .given .1) (c .word-compare .ensures)
 
 returns-21 : tie.Need-returns-21
-unfolding rows wordFor fieldsFor keptOf
+unfolding rows wordFor fieldsFor partsOf
 returns-21 c = rw (c .before .before .i21 .given .1) (c .word-compare2 .ensures)
 
 returns-22 : tie.Need-returns-22
-unfolding rows wordFor fieldsFor keptOf
+unfolding rows wordFor fieldsFor partsOf
 returns-22 c = rw (c .before .before .i22 .given .1) (c .word-compare3 .ensures)
 
 pub word-for-spec : {M : Type 1} → statement M

@@ -1,7 +1,8 @@
 use Rattle.isa.specs.Decode.{rowAt}
 use Rattle.isa.specs.Rows.{rows}
 use Rattle.isa.specs.declared.instruction.Instruction.{Instruction}
-use Rattle.writing.specs.Write.{wordFor, wordBy, fieldsFor, keptOf}
+use Rattle.writing.specs.Write.{wordFor, wordBy, fieldsFor}
+use Rattle.isa.specs.Parts.{partsOf}
 use Rattle.writing.proofs.Operands.{asD, asA, asB}
 use borrow.Author.Needs.{needs}
 use Rattle.writing.proofs.word_iadd.Statement.{statement}
@@ -17,7 +18,7 @@ of-src-requires-2 : tie.Need-of-src-requires-2
 of-src-requires-2 c κs = search needs
 
 returns : tie.Need-returns
-unfolding rows wordFor fieldsFor keptOf
+unfolding rows wordFor fieldsFor partsOf
 returns c =
     let q = c .before .before .before .before .before .before .before .before .before in
     let args = q .before .before .before .args in

@@ -1,5 +1,6 @@
 use Rattle.isa.specs.Rows.{rows}
-use Rattle.writing.specs.Write.{wordFor, fieldsFor, keptOf}
+use Rattle.writing.specs.Write.{wordFor, fieldsFor}
+use Rattle.isa.specs.Parts.{partsOf}
 use borrow.Author.Needs.{needs}
 use Rattle.writing.proofs.word_mov16.Statement.{statement}
 use Rattle.writing.proofs.word_mov16.Tie as tie
@@ -8,7 +9,7 @@ of-dst-requires : tie.Need-of-dst-requires
 of-dst-requires c κs = search needs
 
 returns : tie.Need-returns
-unfolding rows wordFor fieldsFor keptOf
+unfolding rows wordFor fieldsFor partsOf
 returns c = rw (c .before .before .before .of-dst .ensures)
 
 pub word-mov16-spec : {M : Type 1} → statement M

@@ -1,5 +1,6 @@
 use Rattle.isa.specs.Rows.{rows}
-use Rattle.writing.specs.Write.{wordFor, fieldsFor, keptOf}
+use Rattle.writing.specs.Write.{wordFor, fieldsFor}
+use Rattle.isa.specs.Parts.{partsOf}
 use borrow.Author.Needs.{needs}
 use Rattle.writing.proofs.word_pop_exec.Statement.{statement}
 use Rattle.writing.proofs.word_pop_exec.Tie as tie
@@ -8,7 +9,7 @@ cache-bit-requires : tie.Need-cache-bit-requires
 cache-bit-requires c κs = search needs
 
 returns : tie.Need-returns
-unfolding rows wordFor fieldsFor keptOf
+unfolding rows wordFor fieldsFor partsOf
 returns c = rw (c .cache-bit .ensures .0)
 
 pub word-pop-exec-spec : {M : Type 1} → statement M

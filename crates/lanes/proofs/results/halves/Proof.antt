@@ -7,18 +7,18 @@ use denote.Ref.{now}
 use lib.ListN.{length}
 use Rattle.machine.specs.Lanes.{tab, each}
 use Rattle.machine.proofs.Tab.{length-tab}
-use Rattle.lanes.specs.Results.{lowOf, mergedAt, wordLane}
+use Rattle.lanes.specs.Results.{columnOf, mergedAt, wordLane}
 use Rattle.lanes.proofs.Stores.{put-halves}
 use Rattle.lanes.proofs.results.halves.Statement.{statement}
 use Rattle.lanes.proofs.results.halves.Tie as tie
 
-lows-requires : tie.Need-lows-requires
-lows-requires c κs = search needs
+column-requires : tie.Need-column-requires
+column-requires c κs = search needs
 
 merged-requires : tie.Need-merged-requires
 merged-requires c κs =
     let s = c .before .before .before .before .before in
-    (ap length (c .before .before .lows .ensures) ∙ length-tab 32 (lowOf (now (s .args .values))), s .pre)
+    (ap length (c .before .before .column .ensures) ∙ length-tab 32 (columnOf (now (s .args .values)) 0), s .pre)
 
 index-requires : tie.Need-index-requires
 index-requires c κs = search needs
@@ -33,7 +33,7 @@ returns : tie.Need-returns
 returns c =
     let a = c .before .before .before .before .before .before .before .before .before .before .before .before .args in
     let registers = now (a .registers) in
-    let low = c .before .before .before .before .before .before .before .before .before .lows .ensures in
+    let low = c .before .before .before .before .before .before .before .before .before .column .ensures in
     let merged = c .before .before .before .before .before .before .merged .ensures in
     let row = merged ∙ ap (λ (l : List ℕ). tab 32 (mergedAt registers (a .h) l)) low in
     let r = c .before .before .before .before .index .ensures in
@@ -45,7 +45,7 @@ pub halves-spec : {M : Type 1} → statement M
 halves-spec =
     tie.close
     (tie.spec
-    lows-requires
+    column-requires
     merged-requires
     index-requires
     put-requires

@@ -12,14 +12,14 @@ use Rattle.lanes.proofs.results.pairs.Tie as tie
 index-requires : tie.Need-index-requires
 index-requires c κs = search needs
 
-lows-requires : tie.Need-lows-requires
-lows-requires c κs = search needs
+column-requires : tie.Need-column-requires
+column-requires c κs = search needs
 
 put-requires : tie.Need-put-requires
 put-requires c κs = search needs
 
-highs-requires : tie.Need-highs-requires
-highs-requires c κs = search needs
+column-requires-2 : tie.Need-column-requires-2
+column-requires-2 c κs = search needs
 
 add-put : tie.Need-add-put
 add-put c = search needs
@@ -35,10 +35,10 @@ returns c =
     let first = c .before .before .before .before .before .before .before .before .before in
     let index = first .before .before .before .before .before .index in
     let a = first .before .before .before .before .before .before .before .args in
-    let low = first .before .before .before .lows in
-    let high = c .before .before .before .before .before .highs in
+    let low = first .before .before .before .column in
+    let high = c .before .before .before .before .before .column2 in
     c .before .before .put2 .ensures
-    ∙ ap (each 32 (wordLane (high .last .1 .0) (a .mask) (index .result + 1))) (first .put .ensures)
+    ∙ ap (each 32 (wordLane (high .last .1 .1 .0) (a .mask) (index .result + 1))) (first .put .ensures)
     ∙ (λ i.
     each 32 (wordLane (high .ensures i) (a .mask) (index .ensures i + 1))
     (each 32 (wordLane (low .ensures i) (a .mask) (index .ensures i)) (now (a .registers))))
@@ -49,9 +49,9 @@ pairs-spec =
     tie.close
     (tie.spec
     index-requires
-    lows-requires
+    column-requires
     put-requires
-    highs-requires
+    column-requires-2
     add-put
     put-requires-2
     same-length

@@ -8,8 +8,8 @@ use Rattle.lanes.proofs.Stores.{put-words}
 use Rattle.lanes.proofs.results.words.Statement.{statement}
 use Rattle.lanes.proofs.results.words.Tie as tie
 
-lows-requires : tie.Need-lows-requires
-lows-requires c κs = search needs
+column-requires : tie.Need-column-requires
+column-requires c κs = search needs
 
 index-requires : tie.Need-index-requires
 index-requires c κs = search needs
@@ -23,11 +23,11 @@ same-length c = search needs
 returns : tie.Need-returns
 returns c =
     let a = c .before .before .before .before .before .before .before .before .before .args in
-    let row = c .before .before .before .before .before .before .lows .ensures in
+    let row = c .before .before .before .before .before .before .column .ensures in
     let r = c .before .before .before .before .index .ensures in
     c .before .before .put .ensures
     ∙ (λ i. each 32 (wordLane (row i) (a .mask) (r i)) (now (a .registers)))
     ∙ put-words (now (a .values)) (a .mask) (a .r) (now (a .registers))
 
 pub words-spec : {M : Type 1} → statement M
-words-spec = tie.close (tie.spec lows-requires index-requires put-requires same-length returns)
+words-spec = tie.close (tie.spec column-requires index-requires put-requires same-length returns)

@@ -7,7 +7,7 @@ use denote.Ref.{now}
 use Rattle.machine.specs.Lanes.{pack}
 use Rattle.machine.proofs.Masks.{pack-lt}
 use Rattle.lanes.specs.Results.{zeroAt}
-use Rattle.lanes.proofs.OneBit.{bit-fits}
+use Rattle.lane.proofs.OneBit.{bit-fits}
 use Rattle.lanes.proofs.results.zeros.Statement.{statement}
 use Rattle.lanes.proofs.results.zeros.Tie as tie
 

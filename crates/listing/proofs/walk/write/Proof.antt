@@ -5,6 +5,7 @@ use Prim.Native.Nat.{ℕ, _+_, _-_, _≤_}
 use native.Mathlib.Omega.{arith}
 use lib.ListN.{length, take, drop}
 use Rattle.listing.specs.Walk.{limit}
+use Rattle.isa.specs.Parts.{placeOf}
 use Rattle.lines.specs.Line.{lineOf, endLine, refusedLine}
 use Rattle.listing.specs.Listing.{listingOf}
 use lib.Seq.{sets}
@@ -99,7 +100,7 @@ loop-again c =
     let i = c .before .before .before .before .before .before .before .i .given .0 .0 in
     let k = c .before .before .before .before .before .before .before .i .given .0 .1 .0 in
     let bytes = take (l .at + k - l .at) (drop (l .at) code) in
-    let e = length-line (l .at) bytes i in (
+    let e = length-line (l .at) bytes (placeOf i) in (
       omega arith,
       omega arith,
       omega arith,

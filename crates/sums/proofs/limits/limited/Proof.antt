@@ -6,7 +6,7 @@ use lib.Pow.{pow-pos, pow-mono, pow-add}
 use lib.IntN.{pos, negℤ}
 use borrow.Author.Needs.{needs}
 use Rattle.machine.specs.Integer.{limit, modulo, saturateInteger}
-use Rattle.action.specs.Operation.{Sized}
+use Rattle.operations.specs.Operation.{Sized}
 use Rattle.signs.specs.Signed.{signedOf}
 use Rattle.signs.proofs.Modulo.{sign-power}
 use Rattle.sums.proofs.limits.limited.Statement.{statement}

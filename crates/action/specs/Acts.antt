@@ -1,0 +1,46 @@
+-- An action that does what an instruction means, and its parts from the operands of the instruction.
+use Prim.Native.Nat.{ℕ, _≤_}
+use mathlib.Core.Path.{_≡_}
+use Rattle.isa.specs.declared.operand.Dst.{Dst}
+use Rattle.isa.specs.declared.operand.Binary.{Binary}
+use Rattle.isa.specs.declared.operand.Ternary.{Ternary}
+use Rattle.isa.specs.declared.instruction.Compare.{Compare}
+use Rattle.isa.specs.declared.instruction.Instruction.{Instruction}
+use Rattle.machine.specs.Words.{destinationSize, sourceSize}
+use Rattle.machine.specs.Meaning.{meaningOf, size}
+use Rattle.machine.specs.declared.input.Input.{Input}
+use Rattle.operations.specs.Action.{meaningBy, FittingBy}
+use Rattle.operations.specs.declared.Sum.{Sum}
+use Rattle.operations.specs.declared.Test.{Test}
+use Rattle.operations.specs.declared.Operation.{Operation}
+use Rattle.operations.specs.declared.action.Action.{Action}
+
+-- the factors of a multiplication are of 32 bits at most, as MulSrc has them
+pub record Narrow (i : Instruction) : Type 0 where
+  pub factors : (o : Ternary) (S N As Bs Cs shift kept : ℕ) → i ≡ Instruction.Imadd o S N As Bs Cs shift kept
+      → (sourceSize (o .a .source) ≤ 32) × (sourceSize (o .b .source) ≤ 32)
+
+-- an action that does what the instruction means
+pub record Acts (r : Action) (i : Instruction) : Type 0 where
+  pub meaning : meaningBy r ≡ meaningOf i
+  pub fitting : FittingBy r
+
+-- ---- the parts of an action, from the operands of an instruction
+
+abbrev pub writesBy : Dst → Input → Input → Input → Operation → Action
+writesBy d a b c operation = Action.Writes (d .destination) a b c operation
+
+abbrev pub sumFor : Binary → ℕ → ℕ → ℕ → ℕ → ℕ → Sum
+sumFor o S N As Bs shift = record {
+  saturate = S; negate = N; asigned = As; bsigned = Bs; csigned = 0; shift = shift;
+  asize = size (o .a); bsize = size (o .b); csize = 0; dsize = destinationSize (o .d .destination);
+}
+
+abbrev pub productFor : Ternary → ℕ → ℕ → ℕ → ℕ → ℕ → ℕ → Sum
+productFor o S N As Bs Cs shift = record {
+  saturate = S; negate = N; asigned = As; bsigned = Bs; csigned = Cs; shift = shift;
+  asize = size (o .a); bsize = size (o .b); csize = size (o .c); dsize = destinationSize (o .d .destination);
+}
+
+abbrev pub testFor : Compare → Test
+testFor o = record { cc = o .cc; ccn = o .ccn; asize = size (o .operands .a); bsize = size (o .operands .b); n = o .n }

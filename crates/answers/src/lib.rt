@@ -1,0 +1,4 @@
+// Answers as numbers and bytes: of encoding, of a run, and what the exported functions return.
+pub mod encoding;
+pub mod returned;
+pub mod run;

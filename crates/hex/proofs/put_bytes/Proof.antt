@@ -1,0 +1,85 @@
+-- The digits of the bytes that are left, put after those that are written, make the digits of all.
+use mathlib.Core.Path.{_≡_, refl, sym, ap, _∙_}
+use mathlib.Core.List.{List, []}
+use Prim.Native.Nat.{ℕ, _+_, _*_, _-_, _≤_}
+use native.Mathlib.Nat.{add-zero}
+use native.Mathlib.Numerals.{add-one}
+use native.Mathlib.Omega.{arith}
+use lib.ListN.{length, getD, drop, drop-of-length-le}
+use lib.Seq.{sets, drop-cons}
+use Rattle.hex.specs.Hex.{hexByte, hexBytes}
+use Rattle.bits.proofs.Pieces.{after}
+use Rattle.hex.proofs.put_bytes.Statement.{statement}
+use Rattle.hex.proofs.put_bytes.Tie as tie
+
+abbrev Inv-loop : tie.InvT-loop
+Inv-loop text₀ n bytes i₀ text i =
+    (i ≤ length bytes) × (length text ≡ length text₀)
+    × (sets text (n + 2 * i) (hexBytes (drop i bytes)) ≡ sets text₀ n (hexBytes bytes))
+
+abbrev μ-loop : tie.MeasureT-loop
+μ-loop text₀ n bytes i₀ text i = length bytes - i
+
+loop-holds : tie.Need-loop-holds Inv-loop μ-loop
+loop-holds c =
+    let a = c .before .before .args in
+    (omega arith, refl, ap (λ (k : ℕ). sets (a .text .now) k (hexBytes (a .bytes .now))) (add-zero (a .n)))
+
+mul-put-byte : tie.Need-mul-put-byte Inv-loop μ-loop
+mul-put-byte c = omega arith
+
+add-put-byte : tie.Need-add-put-byte Inv-loop μ-loop
+add-put-byte c = omega arith
+
+shared-slice-read-put-byte : tie.Need-shared-slice-read-put-byte Inv-loop μ-loop
+shared-slice-read-put-byte c = omega arith
+
+put-byte-requires : tie.Need-put-byte-requires Inv-loop μ-loop
+put-byte-requires c κs = omega arith
+
+add-i : tie.Need-add-i Inv-loop μ-loop
+add-i c = omega arith
+
+loop-less : tie.Need-loop-less Inv-loop μ-loop
+loop-less c = omega arith
+
+loop-again : tie.Need-loop-again Inv-loop μ-loop
+loop-again c =
+    let l = c .before .before .before .before .before .before .loop in
+    let a = c .before .before .before .before .before .before .before .before .before .args in
+    let s = a .bytes .now in
+    let u = c .before .before .put-byte in (
+      omega arith,
+      omega arith,
+      after (hexByte (getD s (l .i) 0)) (hexBytes (drop (l .i + 1) s)) (hexBytes (drop (l .i) s)) (l .text) (u .last .0)
+          (a .n + 2 * l .i) (a .n + 2 * (l .i + 1)) (u .ensures) (omega arith)
+          (rw (add-one (l .i)) (ap hexBytes (drop-cons s (l .i) 0 (omega arith))))
+          ∙ l .inv .2,
+    )
+
+same-length : tie.Need-same-length Inv-loop μ-loop
+same-length c = omega arith
+
+returns : tie.Need-returns Inv-loop μ-loop
+returns c =
+    let l = c .before .loop in
+    let a = c .before .before .before .before .args in
+    let e : drop (l .i) (a .bytes .now) ≡ [] = drop-of-length-le (a .bytes .now) {i = l .i} (omega arith) in
+    ap (λ (s : List ℕ). sets (l .text) (a .n + 2 * l .i) (hexBytes s)) (sym e) ∙ l .inv .2
+
+pub put-bytes-spec : {M : Type 1} → statement M
+put-bytes-spec =
+    tie.close
+    (tie.spec
+    Inv-loop
+    μ-loop
+    loop-holds
+    mul-put-byte
+    add-put-byte
+    shared-slice-read-put-byte
+    put-byte-requires
+    add-i
+    loop-less
+    loop-again
+    same-length
+    returns)

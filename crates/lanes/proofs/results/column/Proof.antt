@@ -1,0 +1,73 @@
+-- The row holds the words of the threads passed.
+use Prim.Native.Nat.{_-_, _≤_}
+use mathlib.Core.Path.{_≡_, refl}
+use native.Mathlib.Omega.{arith}
+use denote.Ref.{now}
+use lib.ListN.{replicate}
+use Rattle.machine.proofs.Tab.{filled, filled-none}
+use Rattle.lanes.specs.Results.{columnOf}
+use Rattle.lanes.proofs.Rows.{row-next, row-done}
+use Rattle.lanes.proofs.results.column.Statement.{statement}
+use Rattle.lanes.proofs.results.column.Tie as tie
+
+abbrev Inv-loop : tie.InvT-loop
+Inv-loop values k row out₀ t₀ out t = (t ≤ 32) × (out ≡ filled (columnOf values k) t out₀)
+
+abbrev μ-loop : tie.MeasureT-loop
+μ-loop values k row out₀ t₀ out t = 32 - t
+
+loop-holds : tie.Need-loop-holds Inv-loop μ-loop
+loop-holds c = (omega arith, filled-none _ _)
+
+mul-result-word : tie.Need-mul-result-word Inv-loop μ-loop
+mul-result-word c = omega arith
+
+element-copy-out-result-word : tie.Need-element-copy-out-result-word Inv-loop μ-loop
+element-copy-out-result-word c = omega arith
+
+result-word-requires : tie.Need-result-word-requires Inv-loop μ-loop
+result-word-requires c κs = omega arith
+
+mul-out : tie.Need-mul-out Inv-loop μ-loop
+mul-out c = omega arith
+
+array-write-out : tie.Need-array-write-out Inv-loop μ-loop
+array-write-out c = omega arith
+
+add-t : tie.Need-add-t Inv-loop μ-loop
+add-t c = omega arith
+
+loop-less : tie.Need-loop-less Inv-loop μ-loop
+loop-less c = omega arith
+
+loop-again : tie.Need-loop-again Inv-loop μ-loop
+loop-again c =
+    let l = c .before .before .before .loop in
+    let a = c .before .before .before .before .args in (
+      omega arith,
+      row-next (columnOf (now (a .values)) (a .k)) (l .t) (l .out) (replicate 32 0) (l .inv .1) refl (c .result-word .result)
+          (c .before .before .loop-test .taken) (c .result-word .ensures),
+    )
+
+returns : tie.Need-returns Inv-loop μ-loop
+returns c =
+    let l = c .before .loop in
+    let a = c .before .before .args in
+    row-done (columnOf (now (a .values)) (a .k)) (l .t) (l .out) (replicate 32 0) (l .inv .1) refl (l .inv .0) (c .loop-test .left)
+
+pub column-spec : {M : Type 1} → statement M
+column-spec =
+    tie.close
+    (tie.spec
+    Inv-loop
+    μ-loop
+    loop-holds
+    mul-result-word
+    element-copy-out-result-word
+    result-word-requires
+    mul-out
+    array-write-out
+    add-t
+    loop-less
+    loop-again
+    returns)

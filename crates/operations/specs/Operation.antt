@@ -1,0 +1,101 @@
+-- What an operation computes from the values of three sources, by the definitions of the machine; and of which operands that is the
+-- definition: the bit sizes beside an operation are those of its operands, and each value is within its size.
+use Prim.Native.Nat.{ℕ, _≤_, _<_, _^_}
+use mathlib.Core.Path.{_≡_}
+use mathlib.Core.List.{List}
+use Rattle.machine.specs.Step.{Result, sourceAt}
+use Rattle.machine.specs.Meaning as meaning
+use Rattle.operations.specs.declared.Sum.{Sum}
+use Rattle.operations.specs.declared.Test.{Test}
+use Rattle.operations.specs.declared.Truth.{Truth}
+use Rattle.operations.specs.declared.Operation.{Operation}
+
+abbrev pub sumOf : Sum → meaning.Sum
+sumOf o = record {
+  S = o .saturate; N = o .negate; As = o .asigned; Bs = o .bsigned; Cs = o .csigned; shift = o .shift;
+  sizeA = o .asize; sizeB = o .bsize; sizeC = o .csize; sizeD = o .dsize;
+}
+
+abbrev pub conditionOf : Test → meaning.Condition
+conditionOf o = record { cc = o .cc; ccn = o .ccn; sizeA = o .asize; sizeB = o .bsize }
+
+abbrev pub resultBy : Operation → Result
+resultBy (Operation.Mov imm) = meaning.mov imm
+resultBy Operation.GetSr = meaning.getSr
+resultBy (Operation.Iadd o) = meaning.iadd (sumOf o)
+resultBy (Operation.Imadd o) = meaning.imadd (sumOf o)
+resultBy (Operation.Bfi m) = meaning.bfi m
+resultBy (Operation.Bfeil m) = meaning.bfeil m
+resultBy (Operation.Extr m) = meaning.extr m
+resultBy (Operation.Shlhi m) = meaning.shlhi m
+resultBy (Operation.Shrhi m) = meaning.shrhi m
+resultBy (Operation.Asr size) = meaning.asr size
+resultBy (Operation.Asrh size) = meaning.asrh size
+resultBy (Operation.Bitop o) = meaning.bitop (o .tt0) (o .tt1) (o .tt2) (o .tt3)
+resultBy Operation.Bitrev = meaning.bitrev
+resultBy Operation.Popcount = meaning.popcount
+resultBy Operation.Ffs = meaning.ffs
+resultBy (Operation.PopExec n) = meaning.popExec n
+resultBy (Operation.IfIcmp o) = meaning.ifIcmp (conditionOf o) (o .n)
+resultBy (Operation.WhileIcmp o) = meaning.whileIcmp (conditionOf o) (o .n)
+resultBy (Operation.ElseIcmp o) = meaning.elseIcmp (conditionOf o) (o .n)
+
+-- ---- sizes and values
+
+-- the bit sizes that an operation goes by; 64 where it goes by none. The factors of a product have 32 bits at most.
+pub record Sizes : Type 0 where
+  pub a : ℕ
+  pub b : ℕ
+  pub c : ℕ
+  pub d : ℕ
+  pub factor : ℕ
+
+abbrev pub sizes : ℕ → ℕ → ℕ → ℕ → ℕ → Sizes
+sizes a b c d factor = record { a = a; b = b; c = c; d = d; factor = factor }
+
+abbrev pub anySizes : Sizes
+anySizes = sizes 64 64 64 64 64
+
+abbrev pub testSizes : Test → Sizes
+testSizes o = sizes (o .asize) (o .bsize) 16 64 64
+
+abbrev pub sizesBy : Operation → Sizes
+sizesBy (Operation.Mov imm) = anySizes
+sizesBy Operation.GetSr = anySizes
+sizesBy (Operation.Iadd o) = sizes (o .asize) (o .bsize) 64 (o .dsize) 64
+sizesBy (Operation.Imadd o) = sizes (o .asize) (o .bsize) (o .csize) (o .dsize) 32
+sizesBy (Operation.Bfi m) = anySizes
+sizesBy (Operation.Bfeil m) = anySizes
+sizesBy (Operation.Extr m) = anySizes
+sizesBy (Operation.Shlhi m) = anySizes
+sizesBy (Operation.Shrhi m) = anySizes
+sizesBy (Operation.Asr size) = sizes size 64 64 64 64
+sizesBy (Operation.Asrh size) = sizes size 64 64 64 64
+sizesBy (Operation.Bitop o) = anySizes
+sizesBy Operation.Bitrev = anySizes
+sizesBy Operation.Popcount = anySizes
+sizesBy Operation.Ffs = anySizes
+sizesBy (Operation.PopExec n) = sizes 64 64 16 64 64
+sizesBy (Operation.IfIcmp o) = testSizes o
+sizesBy (Operation.WhileIcmp o) = testSizes o
+sizesBy (Operation.ElseIcmp o) = testSizes o
+
+abbrev pub Sized : ℕ → Type 0
+Sized size = (0 < size) × (size ≤ 64)
+
+pub record SizedBy (o : Operation) : Type 0 where
+  pub a : Sized (sizesBy o .a)
+  pub b : Sized (sizesBy o .b)
+  pub c : Sized (sizesBy o .c)
+  pub d : Sized (sizesBy o .d)
+  pub factors : (sizesBy o .a ≤ sizesBy o .factor) × (sizesBy o .b ≤ sizesBy o .factor)
+
+-- the values of one thread are within their sizes
+pub record ValuesWithin (o : Operation) (x y z : ℕ) : Type 0 where
+  pub a : x < 2 ^ sizesBy o .a
+  pub b : y < 2 ^ sizesBy o .b
+  pub c : z < 2 ^ sizesBy o .c
+
+-- and so of all 32
+abbrev pub ValuesWithinAll : Operation → List (List ℕ) → Type 0
+ValuesWithinAll o sources = (t : ℕ) → t < 32 → ValuesWithin o (sourceAt sources 0 t) (sourceAt sources 1 t) (sourceAt sources 2 t)
