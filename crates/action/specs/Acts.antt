@@ -30,17 +30,19 @@ pub record Acts (r : Action) (i : Instruction) : Type 0 where
 abbrev pub writesBy : Dst → Input → Input → Input → Operation → Action
 writesBy d a b c operation = Action.Writes (d .destination) a b c operation
 
-abbrev pub sumFor : Binary → ℕ → ℕ → ℕ → ℕ → ℕ → Sum
-sumFor o S N As Bs shift = record {
-  saturate = S; negate = N; asigned = As; bsigned = Bs; csigned = 0; shift = shift;
-  asize = size (o .a); bsize = size (o .b); csize = 0; dsize = destinationSize (o .d .destination);
+-- the flags of a sum and the bit sizes of its operands
+abbrev pub sumWith : ℕ → ℕ → ℕ → ℕ → ℕ → ℕ → ℕ → ℕ → ℕ → ℕ → Sum
+sumWith S N As Bs Cs shift a b c d = record {
+  saturate = S; negate = N; asigned = As; bsigned = Bs; csigned = Cs; shift = shift; asize = a; bsize = b; csize = c; dsize = d;
 }
 
+-- of iadd, which has no C
+abbrev pub sumFor : Binary → ℕ → ℕ → ℕ → ℕ → ℕ → Sum
+sumFor o S N As Bs shift = sumWith S N As Bs 0 shift (size (o .a)) (size (o .b)) 0 (destinationSize (o .d .destination))
+
 abbrev pub productFor : Ternary → ℕ → ℕ → ℕ → ℕ → ℕ → ℕ → Sum
-productFor o S N As Bs Cs shift = record {
-  saturate = S; negate = N; asigned = As; bsigned = Bs; csigned = Cs; shift = shift;
-  asize = size (o .a); bsize = size (o .b); csize = size (o .c); dsize = destinationSize (o .d .destination);
-}
+productFor o S N As Bs Cs shift =
+    sumWith S N As Bs Cs shift (size (o .a)) (size (o .b)) (size (o .c)) (destinationSize (o .d .destination))
 
 abbrev pub testFor : Compare → Test
 testFor o = record { cc = o .cc; ccn = o .ccn; asize = size (o .operands .a); bsize = size (o .operands .b); n = o .n }

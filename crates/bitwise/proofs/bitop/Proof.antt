@@ -4,27 +4,12 @@ use Rattle.bitwise.proofs.Tables.{by-table, no-table}
 use Rattle.bitwise.proofs.bitop.Statement.{statement}
 use Rattle.bitwise.proofs.bitop.Tie as tie
 
-undefined-requires : tie.Need-undefined-requires
-undefined-requires c κs = search needs
-
 returns : tie.Need-returns
 returns c k =
     let s = c .before .before in
     let o = s .args .o in
     no-table (o .tt0) (o .tt1) (o .tt2) (o .tt3) (s .args .a) (s .args .b) k (s .fits .a .fits)
     (sym (c .before .undefined .ensures) ∙ c .if1 .taken)
-
-where-set-requires : tie.Need-where-set-requires
-where-set-requires c κs = search needs
-
-where-set-requires-2 : tie.Need-where-set-requires-2
-where-set-requires-2 c κs = search needs
-
-where-set-requires-3 : tie.Need-where-set-requires-3
-where-set-requires-3 c κs = search needs
-
-where-set-requires-4 : tie.Need-where-set-requires-4
-where-set-requires-4 c κs = search needs
 
 returns-2 : tie.Need-returns-2
 returns-2 c k =
@@ -40,10 +25,5 @@ pub bitop-spec : {M : Type 1} → statement M
 bitop-spec =
     tie.close
     (tie.spec
-    undefined-requires
-    returns
-    where-set-requires
-    where-set-requires-2
-    where-set-requires-3
-    where-set-requires-4
+    (λ c κs. search needs) returns (λ c κs. search needs) (λ c κs. search needs) (λ c κs. search needs) (λ c κs. search needs)
     returns-2)

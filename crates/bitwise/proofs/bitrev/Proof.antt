@@ -4,21 +4,6 @@ use borrow.Author.Needs.{needs}
 use Rattle.bitwise.proofs.bitrev.Statement.{statement}
 use Rattle.bitwise.proofs.bitrev.Tie as tie
 
-exchange-requires : tie.Need-exchange-requires
-exchange-requires c κs = search needs
-
-exchange-requires-2 : tie.Need-exchange-requires-2
-exchange-requires-2 c κs = search needs
-
-exchange-requires-3 : tie.Need-exchange-requires-3
-exchange-requires-3 c κs = search needs
-
-exchange-requires-4 : tie.Need-exchange-requires-4
-exchange-requires-4 c κs = search needs
-
-exchange-requires-5 : tie.Need-exchange-requires-5
-exchange-requires-5 c κs = search needs
-
 returns : tie.Need-returns
 unfolding bitrev
 returns c b k =
@@ -34,9 +19,4 @@ pub bitrev-spec : {M : Type 1} → statement M
 bitrev-spec =
     tie.close
     (tie.spec
-    exchange-requires
-    exchange-requires-2
-    exchange-requires-3
-    exchange-requires-4
-    exchange-requires-5
-    returns)
+    (λ c κs. search needs) (λ c κs. search needs) (λ c κs. search needs) (λ c κs. search needs) (λ c κs. search needs) returns)

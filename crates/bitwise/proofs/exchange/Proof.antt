@@ -8,12 +8,6 @@ use borrow.Author.Needs.{needs}
 use Rattle.bitwise.proofs.exchange.Statement.{statement}
 use Rattle.bitwise.proofs.exchange.Tie as tie
 
-shl-result : tie.Need-shl-result
-shl-result c = search needs
-
-shr-result : tie.Need-shr-result
-shr-result c = search needs
-
 returns : tie.Need-returns
 returns c =
     let a = c .args in
@@ -21,4 +15,4 @@ returns c =
     (shl-exact 32 (a .w) 64 (lt-of-le-of-lt (and-le-r (a .x) (a .mask)) (c .pre .1)) (omega arith))
 
 pub exchange-spec : {M : Type 1} → statement M
-exchange-spec = tie.close (tie.spec shl-result shr-result returns)
+exchange-spec = tie.close (tie.spec (λ c. search needs) (λ c. search needs) returns)

@@ -5,32 +5,11 @@ use borrow.Author.Needs.{needs}
 use Rattle.decode.proofs.decode.Statement.{statement}
 use Rattle.decode.proofs.decode.Tie as tie
 
-word-requires : tie.Need-word-requires
-word-requires c κs = search needs
-
-held-requires : tie.Need-held-requires
-held-requires c κs = search needs
-
-find-first-requires : tie.Need-find-first-requires
-find-first-requires c κs = search needs
-
-enum-known-place : tie.Need-enum-known-place
-enum-known-place c = search needs
-
 ones-of-requires : tie.Need-ones-of-requires
 ones-of-requires c κs = within _ _ _ (c .before .before .before .find-first .ensures .1) (c .before .place .given .1) .1
 
 read-requires : tie.Need-read-requires
 read-requires c κs = within _ _ _ (c .before .before .before .before .find-first .ensures .1) (c .before .before .place .given .1) .0
-
-decoded-requires : tie.Need-decoded-requires
-decoded-requires c κs = search needs
-
-enum-told : tie.Need-enum-told
-enum-told c = search needs
-
-enum-told-2 : tie.Need-enum-told-2
-enum-told-2 c = search needs
 
 returns : tie.Need-returns
 returns c =
@@ -53,15 +32,5 @@ pub decode-spec : {M : Type 1} → statement M
 decode-spec =
     tie.close
     (tie.spec
-    word-requires
-    held-requires
-    find-first-requires
-    enum-known-place
-    ones-of-requires
-    read-requires
-    decoded-requires
-    enum-told
-    enum-told-2
-    returns
-    returns-2
-    returns-3)
+    (λ c κs. search needs) (λ c κs. search needs) (λ c κs. search needs) (λ c. search needs) ones-of-requires read-requires
+    (λ c κs. search needs) (λ c. search needs) (λ c. search needs) returns returns-2 returns-3)

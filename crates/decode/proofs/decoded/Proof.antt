@@ -2,12 +2,6 @@ use borrow.Author.Needs.{needs}
 use Rattle.decode.proofs.decoded.Statement.{statement}
 use Rattle.decode.proofs.decoded.Tie as tie
 
-enum-known-r : tie.Need-enum-known-r
-enum-known-r c = search needs
-
-enum-told : tie.Need-enum-told
-enum-told c = search needs
-
 returns : tie.Need-returns
 returns c = rw (c .before .r .given .1)
 
@@ -15,4 +9,4 @@ returns-2 : tie.Need-returns-2
 returns-2 c = rw (c .enum-told .given .1)
 
 pub decoded-spec : {M : Type 1} → statement M
-decoded-spec = tie.close (tie.spec enum-known-r enum-told returns returns-2)
+decoded-spec = tie.close (tie.spec (λ c. search needs) (λ c. search needs) returns returns-2)

@@ -4,15 +4,6 @@ use Rattle.encode.proofs.Steps.{found-same, found-other}
 use Rattle.encode.proofs.is_found.Statement.{statement}
 use Rattle.encode.proofs.is_found.Tie as tie
 
-enum-known-d : tie.Need-enum-known-d
-enum-known-d c = search needs
-
-same-requires : tie.Need-same-requires
-same-requires c κs = search needs
-
-enum-told : tie.Need-enum-told
-enum-told c = search needs
-
 returns : tie.Need-returns
 returns c = c .same .ensures ∙ sym (found-same _ _ _ _ _ (c .before .before .before .d .given .1) (c .before .if1 .taken))
 
@@ -23,5 +14,4 @@ returns-3 : tie.Need-returns-3
 returns-3 c = rw (c .enum-told .given .1)
 
 pub is-found-spec : {M : Type 1} → statement M
-is-found-spec =
-    tie.close (tie.spec enum-known-d same-requires enum-told returns returns-2 returns-3)
+is-found-spec = tie.close (tie.spec (λ c. search needs) (λ c κs. search needs) (λ c. search needs) returns returns-2 returns-3)

@@ -3,15 +3,6 @@ use Rattle.fields.proofs.Inserts.{bfeil-is}
 use Rattle.fields.proofs.bfeil.Statement.{statement}
 use Rattle.fields.proofs.bfeil.Tie as tie
 
-amount-requires : tie.Need-amount-requires
-amount-requires c κs = search needs
-
-mask-requires : tie.Need-mask-requires
-mask-requires c κs = search needs
-
-down-requires : tie.Need-down-requires
-down-requires c κs = search needs
-
 returns : tie.Need-returns
 returns c =
     let n = c .before .before in
@@ -20,4 +11,4 @@ returns c =
     (bfeil-is (s .args .m) (s .args .a) (s .args .b) (s .args .c) (s .fits .a .fits) (s .fits .b .fits))
 
 pub bfeil-spec : {M : Type 1} → statement M
-bfeil-spec = tie.close (tie.spec amount-requires mask-requires down-requires returns)
+bfeil-spec = tie.close (tie.spec (λ c κs. search needs) (λ c κs. search needs) (λ c κs. search needs) returns)

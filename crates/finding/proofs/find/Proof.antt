@@ -3,19 +3,10 @@ use borrow.Author.Needs.{needs}
 use Rattle.finding.proofs.find.Statement.{statement}
 use Rattle.finding.proofs.find.Tie as tie
 
-word-requires : tie.Need-word-requires
-word-requires c κs = search needs
-
-held-requires : tie.Need-held-requires
-held-requires c κs = search needs
-
-find-first-requires : tie.Need-find-first-requires
-find-first-requires c κs = search needs
-
 returns : tie.Need-returns
 returns c =
     found (c .before .before .before .before .args .code .now) (λ k. c .before .before .before .shared-slice-known .given k .fits) _ _ _ (c .before .before .word .ensures) (c .before .held .ensures)
     (c .find-first .ensures .0)
 
 pub find-spec : {M : Type 1} → statement M
-find-spec = tie.close (tie.spec word-requires held-requires find-first-requires returns)
+find-spec = tie.close (tie.spec (λ c κs. search needs) (λ c κs. search needs) (λ c κs. search needs) returns)

@@ -10,9 +10,6 @@ use Rattle.form.proofs.from_bytes.Tie as tie
 returns : tie.Need-returns
 returns c = other-length (c .before .before .args .b .now) (c .if1 .taken)
 
-shared-slice-read-kind : tie.Need-shared-slice-read-kind
-shared-slice-read-kind c = search needs
-
 returns-2 : tie.Need-returns-2
 returns-2 c =
     let known = c .before .before in
@@ -22,18 +19,6 @@ returns-3 : tie.Need-returns-3
 returns-3 c =
     let known = c .before .before .before in
     high-kind (known .before .before .args .b .now) (known .if1 .left) (c .if3 .taken)
-
-instruction-from-requires : tie.Need-instruction-from-requires
-instruction-from-requires c κs = search needs
-
-to-bytes-requires : tie.Need-to-bytes-requires
-to-bytes-requires c κs = search needs
-
-slice-aggregate-bytes : tie.Need-slice-aggregate-bytes
-slice-aggregate-bytes c = search needs
-
-bytes-requires : tie.Need-bytes-requires
-bytes-requires c κs = search needs
 
 -- by the comparison of the bytes with the form of what was read
 by-form : (c : tie.After-bytes)
@@ -56,13 +41,5 @@ pub from-bytes-spec : {M : Type 1} → statement M
 from-bytes-spec =
     tie.close
     (tie.spec
-    returns
-    shared-slice-read-kind
-    returns-2
-    returns-3
-    instruction-from-requires
-    to-bytes-requires
-    slice-aggregate-bytes
-    bytes-requires
-    returns-4
-    returns-5)
+    returns (λ c. search needs) returns-2 returns-3 (λ c κs. search needs) (λ c κs. search needs) (λ c. search needs)
+    (λ c κs. search needs) returns-4 returns-5)

@@ -8,18 +8,6 @@ use borrow.Author.Needs.{needs}
 use Rattle.form.proofs.to_bytes.Statement.{statement}
 use Rattle.form.proofs.to_bytes.Tie as tie
 
-parts-of-requires : tie.Need-parts-of-requires
-parts-of-requires c κs = search needs
-
-length-of-requires : tie.Need-length-of-requires
-length-of-requires c κs = search needs
-
-cast-lay-out : tie.Need-cast-lay-out
-cast-lay-out c = search needs
-
-lay-out-requires : tie.Need-lay-out-requires
-lay-out-requires c κs = search needs
-
 returns : tie.Need-returns
 returns c =
     let s = c .before .before .before in
@@ -30,4 +18,6 @@ returns c =
 
 pub to-bytes-spec : {M : Type 1} → statement M
 to-bytes-spec =
-    tie.close (tie.spec parts-of-requires length-of-requires cast-lay-out lay-out-requires returns)
+    tie.close
+    (tie.spec
+    (λ c κs. search needs) (λ c κs. search needs) (λ c. search needs) (λ c κs. search needs) returns)

@@ -12,75 +12,6 @@ use Rattle.formread.proofs.instruction_from.Tie as tie
 one-less : (k : ℕ) → 0 < k → k < 23 → k - 1 < 22
 one-less k h g = omega arith
 
-sub-place : tie.Need-sub-place
-sub-place c = search needs
-
-mov16-from-requires : tie.Need-mov16-from-requires
-mov16-from-requires c κs = search needs
-
-mov32-from-requires : tie.Need-mov32-from-requires
-mov32-from-requires c κs = search needs
-
-get-sr-from-requires : tie.Need-get-sr-from-requires
-get-sr-from-requires c κs = search needs
-
-iadd-from-requires : tie.Need-iadd-from-requires
-iadd-from-requires c κs = search needs
-
-imadd-from-requires : tie.Need-imadd-from-requires
-imadd-from-requires c κs = search needs
-
-bitfield-from-requires : tie.Need-bitfield-from-requires
-bitfield-from-requires c κs = search needs
-
-bitfield-from-requires-2 : tie.Need-bitfield-from-requires-2
-bitfield-from-requires-2 c κs = search needs
-
-bitfield-from-requires-3 : tie.Need-bitfield-from-requires-3
-bitfield-from-requires-3 c κs = search needs
-
-bitfield-from-requires-4 : tie.Need-bitfield-from-requires-4
-bitfield-from-requires-4 c κs = search needs
-
-bitfield-from-requires-5 : tie.Need-bitfield-from-requires-5
-bitfield-from-requires-5 c κs = search needs
-
-shift-from-requires : tie.Need-shift-from-requires
-shift-from-requires c κs = search needs
-
-shift-from-requires-2 : tie.Need-shift-from-requires-2
-shift-from-requires-2 c κs = search needs
-
-bitop-from-requires : tie.Need-bitop-from-requires
-bitop-from-requires c κs = search needs
-
-scan-from-requires : tie.Need-scan-from-requires
-scan-from-requires c κs = search needs
-
-scan-from-requires-2 : tie.Need-scan-from-requires-2
-scan-from-requires-2 c κs = search needs
-
-scan-from-requires-3 : tie.Need-scan-from-requires-3
-scan-from-requires-3 c κs = search needs
-
-off-from-requires : tie.Need-off-from-requires
-off-from-requires c κs = search needs
-
-off-from-requires-2 : tie.Need-off-from-requires-2
-off-from-requires-2 c κs = search needs
-
-pop-exec-from-requires : tie.Need-pop-exec-from-requires
-pop-exec-from-requires c κs = search needs
-
-compare-from-requires : tie.Need-compare-from-requires
-compare-from-requires c κs = search needs
-
-compare-from-requires-2 : tie.Need-compare-from-requires-2
-compare-from-requires-2 c κs = search needs
-
-compare-from-requires-3 : tie.Need-compare-from-requires-3
-compare-from-requires-3 c κs = search needs
-
 returns : tie.Need-returns
 unfolding instructionFrom
 returns c = rw (c .before .match .keys1) (c .mov16-from .ensures)
@@ -175,48 +106,10 @@ pub instruction-from-spec : {M : Type 1} → statement M
 instruction-from-spec =
     tie.close
     (tie.spec
-    sub-place
-    mov16-from-requires
-    mov32-from-requires
-    get-sr-from-requires
-    iadd-from-requires
-    imadd-from-requires
-    bitfield-from-requires
-    bitfield-from-requires-2
-    bitfield-from-requires-3
-    bitfield-from-requires-4
-    bitfield-from-requires-5
-    shift-from-requires
-    shift-from-requires-2
-    bitop-from-requires
-    scan-from-requires
-    scan-from-requires-2
-    scan-from-requires-3
-    off-from-requires
-    off-from-requires-2
-    pop-exec-from-requires
-    compare-from-requires
-    compare-from-requires-2
-    compare-from-requires-3
-    returns
-    returns-2
-    returns-3
-    returns-4
-    returns-5
-    returns-6
-    returns-7
-    returns-8
-    returns-9
-    returns-10
-    returns-11
-    returns-12
-    returns-13
-    returns-14
-    returns-15
-    returns-16
-    returns-17
-    returns-18
-    returns-19
-    returns-20
-    returns-21
-    returns-22)
+    (λ c. search needs) (λ c κs. search needs) (λ c κs. search needs) (λ c κs. search needs) (λ c κs. search needs)
+    (λ c κs. search needs) (λ c κs. search needs) (λ c κs. search needs) (λ c κs. search needs) (λ c κs. search needs)
+    (λ c κs. search needs) (λ c κs. search needs) (λ c κs. search needs) (λ c κs. search needs) (λ c κs. search needs)
+    (λ c κs. search needs) (λ c κs. search needs) (λ c κs. search needs) (λ c κs. search needs) (λ c κs. search needs)
+    (λ c κs. search needs) (λ c κs. search needs) (λ c κs. search needs) returns returns-2 returns-3 returns-4 returns-5 returns-6
+    returns-7 returns-8 returns-9 returns-10 returns-11 returns-12 returns-13 returns-14 returns-15 returns-16 returns-17
+    returns-18 returns-19 returns-20 returns-21 returns-22)

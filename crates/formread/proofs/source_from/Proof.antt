@@ -3,12 +3,6 @@ use borrow.Author.Needs.{needs}
 use Rattle.formread.proofs.source_from.Statement.{statement}
 use Rattle.formread.proofs.source_from.Tie as tie
 
-mul-t7 : tie.Need-mul-t7
-mul-t7 c = search needs
-
-add-t8 : tie.Need-add-t8
-add-t8 c = search needs
-
 returns : tie.Need-returns
 returns c = rw (c .match .keys1)
 
@@ -33,4 +27,5 @@ returns-7 c = search ne-eqb
 pub source-from-spec : {M : Type 1} → statement M
 source-from-spec =
     tie.close
-    (tie.spec mul-t7 add-t8 returns returns-2 returns-3 returns-4 returns-5 returns-6 returns-7)
+    (tie.spec
+    (λ c. search needs) (λ c. search needs) returns returns-2 returns-3 returns-4 returns-5 returns-6 returns-7)

@@ -3,30 +3,6 @@ use Rattle.machine.specs.Step.{goingOf}
 use Rattle.going.proofs.goes_to.Statement.{statement}
 use Rattle.going.proofs.goes_to.Tie as tie
 
-enum-told : tie.Need-enum-told
-enum-told c = search needs
-
-add-t9 : tie.Need-add-t9
-add-t9 c = search needs
-
-enum-told-2 : tie.Need-enum-told-2
-enum-told-2 c = search needs
-
-add-t10 : tie.Need-add-t10
-add-t10 c = search needs
-
-enum-known-action : tie.Need-enum-known-action
-enum-known-action c = search needs
-
-taken-requires : tie.Need-taken-requires
-taken-requires c κs = search needs
-
-landing-requires : tie.Need-landing-requires
-landing-requires c κs = search needs
-
-add-t13 : tie.Need-add-t13
-add-t13 c = search needs
-
 returns : tie.Need-returns
 unfolding goingOf
 returns c = rw (c .enum-told .given .1)
@@ -49,15 +25,5 @@ pub goes-to-spec : {M : Type 1} → statement M
 goes-to-spec =
     tie.close
     (tie.spec
-    enum-told
-    add-t9
-    enum-told-2
-    add-t10
-    enum-known-action
-    taken-requires
-    landing-requires
-    add-t13
-    returns
-    returns-2
-    returns-3
-    returns-4)
+    (λ c. search needs) (λ c. search needs) (λ c. search needs) (λ c. search needs) (λ c. search needs) (λ c κs. search needs)
+    (λ c κs. search needs) (λ c. search needs) returns returns-2 returns-3 returns-4)

@@ -10,21 +10,6 @@ use borrow.Author.Needs.{needs}
 use Rattle.lines.proofs.put_end.Statement.{statement}
 use Rattle.lines.proofs.put_end.Tie as tie
 
-put-address-requires : tie.Need-put-address-requires
-put-address-requires c κs = search needs
-
-add-put : tie.Need-add-put
-add-put c = search needs
-
-slice-aggregate-put : tie.Need-slice-aggregate-put
-slice-aggregate-put c = search needs
-
-put-requires : tie.Need-put-requires
-put-requires c κs = search needs
-
-same-length : tie.Need-same-length
-same-length c = search needs
-
 returns : tie.Need-returns
 unfolding endLine
 returns c =
@@ -37,4 +22,5 @@ returns c =
 pub put-end-spec : {M : Type 1} → statement M
 put-end-spec =
     tie.close
-    (tie.spec put-address-requires add-put slice-aggregate-put put-requires same-length returns)
+    (tie.spec
+    (λ c κs. search needs) (λ c. search needs) (λ c. search needs) (λ c κs. search needs) (λ c. search needs) returns)

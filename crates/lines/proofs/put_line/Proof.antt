@@ -14,30 +14,6 @@ use borrow.Author.Needs.{needs}
 use Rattle.lines.proofs.put_line.Statement.{statement}
 use Rattle.lines.proofs.put_line.Tie as tie
 
-put-address-requires : tie.Need-put-address-requires
-put-address-requires c κs = search needs
-
-add-put-bytes : tie.Need-add-put-bytes
-add-put-bytes c = search needs
-
-put-bytes-requires : tie.Need-put-bytes-requires
-put-bytes-requires c κs = search needs
-
-add-put-tail : tie.Need-add-put-tail
-add-put-tail c = search needs
-
-mul-put-tail : tie.Need-mul-put-tail
-mul-put-tail c = search needs
-
-add-put-tail-2 : tie.Need-add-put-tail-2
-add-put-tail-2 c = search needs
-
-put-tail-requires : tie.Need-put-tail-requires
-put-tail-requires c κs = search needs
-
-same-length : tie.Need-same-length
-same-length c = search needs
-
 returns : tie.Need-returns
 unfolding lineAt
 returns c =
@@ -59,12 +35,5 @@ pub put-line-spec : {M : Type 1} → statement M
 put-line-spec =
     tie.close
     (tie.spec
-    put-address-requires
-    add-put-bytes
-    put-bytes-requires
-    add-put-tail
-    mul-put-tail
-    add-put-tail-2
-    put-tail-requires
-    same-length
-    returns)
+    (λ c κs. search needs) (λ c. search needs) (λ c κs. search needs) (λ c. search needs) (λ c. search needs) (λ c. search needs)
+    (λ c κs. search needs) (λ c. search needs) returns)

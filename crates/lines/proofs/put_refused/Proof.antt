@@ -14,29 +14,8 @@ use borrow.Author.Needs.{needs}
 use Rattle.lines.proofs.put_refused.Statement.{statement}
 use Rattle.lines.proofs.put_refused.Tie as tie
 
-put-address-requires : tie.Need-put-address-requires
-put-address-requires c κs = search needs
-
-number-requires : tie.Need-number-requires
-number-requires c κs = search needs
-
 hex-digit-requires : tie.Need-hex-digit-requires
 hex-digit-requires c κs = omega (arith, number-below (c .before .before .before .before .before .before .before .before .args .r))
-
-array-write-word : tie.Need-array-write-word
-array-write-word c = search needs
-
-add-put : tie.Need-add-put
-add-put c = search needs
-
-slice-aggregate-put : tie.Need-slice-aggregate-put
-slice-aggregate-put c = search needs
-
-put-requires : tie.Need-put-requires
-put-requires c κs = search needs
-
-same-length : tie.Need-same-length
-same-length c = search needs
 
 returns : tie.Need-returns
 unfolding refusedLine
@@ -56,12 +35,5 @@ pub put-refused-spec : {M : Type 1} → statement M
 put-refused-spec =
     tie.close
     (tie.spec
-    put-address-requires
-    number-requires
-    hex-digit-requires
-    array-write-word
-    add-put
-    slice-aggregate-put
-    put-requires
-    same-length
-    returns)
+    (λ c κs. search needs) (λ c κs. search needs) hex-digit-requires (λ c. search needs) (λ c. search needs) (λ c. search needs)
+    (λ c κs. search needs) (λ c. search needs) returns)

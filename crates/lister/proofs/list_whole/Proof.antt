@@ -6,18 +6,6 @@ use borrow.Author.Needs.{needs}
 use Rattle.lister.proofs.list_whole.Statement.{statement}
 use Rattle.lister.proofs.list_whole.Tie as tie
 
-list-requires : tie.Need-list-requires
-list-requires c κs = search needs
-
-enum-known-n : tie.Need-enum-known-n
-enum-known-n c = search needs
-
-enum-told : tie.Need-enum-told
-enum-told c = search needs
-
-same-length : tie.Need-same-length
-same-length c = search needs
-
 returns : tie.Need-returns
 returns c =
     let s = c .before .before .before .before .before .before .before .before .before in
@@ -27,9 +15,6 @@ returns c =
     let a = s .args in
     let w = whole (a .code .now) (a .text .now) new (l .result) (s .pre) (l .ensures .0) (l .ensures .1) (n .0 .0) (n .1) in
     ((w .0, sym (length-take-le (n .0 .0) new (w .0))), w .1)
-
-same-length-2 : tie.Need-same-length-2
-same-length-2 c = search needs
 
 returns-2 : tie.Need-returns-2
 returns-2 c =
@@ -43,4 +28,5 @@ returns-2 c =
 pub list-whole-spec : {M : Type 1} → statement M
 list-whole-spec =
     tie.close
-    (tie.spec list-requires enum-known-n enum-told same-length returns same-length-2 returns-2)
+    (tie.spec
+    (λ c κs. search needs) (λ c. search needs) (λ c. search needs) (λ c. search needs) returns (λ c. search needs) returns-2)

@@ -13,15 +13,6 @@ use borrow.Author.Needs.{needs}
 use Rattle.listing.proofs.list.Statement.{statement}
 use Rattle.listing.proofs.list.Tie as tie
 
-measure-requires : tie.Need-measure-requires
-measure-requires c κs = search needs
-
-write-requires : tie.Need-write-requires
-write-requires c κs = omega arith
-
-same-length : tie.Need-same-length
-same-length c = search needs
-
 returns : tie.Need-returns
 returns c =
     let a = c .before .before .before .before .before .before .before .before .args in
@@ -40,4 +31,4 @@ returns-2 c =
     (rw t, rw t)
 
 pub list-spec : {M : Type 1} → statement M
-list-spec = tie.close (tie.spec measure-requires write-requires same-length returns returns-2)
+list-spec = tie.close (tie.spec (λ c κs. search needs) (λ c κs. omega arith) (λ c. search needs) returns returns-2)

@@ -6,12 +6,6 @@ use Rattle.machine.specs.Meaning.{elseIcmp}
 use Rattle.nesting.proofs.else_icmp.Statement.{statement}
 use Rattle.nesting.proofs.else_icmp.Tie as tie
 
-wide-requires : tie.Need-wide-requires
-wide-requires c κs = search needs
-
-holds-requires : tie.Need-holds-requires
-holds-requires c κs = search needs
-
 returns : tie.Need-returns
 unfolding modulo elseIcmp
 returns c =
@@ -41,5 +35,4 @@ returns-4 c =
     rw (ne-eqb v 0 (omega arith), ne-eqb v 1 (omega arith)) (omega arith)
 
 pub else-icmp-spec : {M : Type 1} → statement M
-else-icmp-spec =
-    tie.close (tie.spec wide-requires holds-requires returns returns-2 returns-3 returns-4)
+else-icmp-spec = tie.close (tie.spec (λ c κs. search needs) (λ c κs. search needs) returns returns-2 returns-3 returns-4)

@@ -7,18 +7,6 @@ use Rattle.nesting.proofs.Order.{same-comparison}
 use Rattle.nesting.proofs.holds.Statement.{statement}
 use Rattle.nesting.proofs.holds.Tie as tie
 
-rank-requires : tie.Need-rank-requires
-rank-requires c κs = search needs
-
-rank-requires-2 : tie.Need-rank-requires-2
-rank-requires-2 c κs = search needs
-
-compared-requires : tie.Need-compared-requires
-compared-requires c κs = search needs
-
-turned-requires : tie.Need-turned-requires
-turned-requires c κs = search needs
-
 returns : tie.Need-returns
 unfolding holds
 returns c =
@@ -34,4 +22,6 @@ returns c =
 
 pub holds-spec : {M : Type 1} → statement M
 holds-spec =
-    tie.close (tie.spec rank-requires rank-requires-2 compared-requires turned-requires returns)
+    tie.close
+    (tie.spec
+    (λ c κs. search needs) (λ c κs. search needs) (λ c κs. search needs) (λ c κs. search needs) returns)

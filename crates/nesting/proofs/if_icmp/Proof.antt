@@ -6,15 +6,6 @@ use Rattle.machine.specs.Meaning.{ifIcmp}
 use Rattle.nesting.proofs.if_icmp.Statement.{statement}
 use Rattle.nesting.proofs.if_icmp.Tie as tie
 
-wide-requires : tie.Need-wide-requires
-wide-requires c κs = search needs
-
-add-result : tie.Need-add-result
-add-result c = search needs
-
-holds-requires : tie.Need-holds-requires
-holds-requires c κs = search needs
-
 returns : tie.Need-returns
 unfolding modulo ifIcmp
 returns c =
@@ -34,5 +25,4 @@ returns-3 c =
     rw (eq-eqb v 0 (omega arith), ← c .before .holds .ensures, c .if2 .left) (omega arith)
 
 pub if-icmp-spec : {M : Type 1} → statement M
-if-icmp-spec =
-    tie.close (tie.spec wide-requires add-result holds-requires returns returns-2 returns-3)
+if-icmp-spec = tie.close (tie.spec (λ c κs. search needs) (λ c. search needs) (λ c κs. search needs) returns returns-2 returns-3)

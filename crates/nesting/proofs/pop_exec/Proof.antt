@@ -5,9 +5,6 @@ use Rattle.nesting.proofs.Popped.{popped}
 use Rattle.nesting.proofs.pop_exec.Statement.{statement}
 use Rattle.nesting.proofs.pop_exec.Tie as tie
 
-wide-requires : tie.Need-wide-requires
-wide-requires c κs = search needs
-
 returns : tie.Need-returns
 unfolding modulo
 returns c a b = rw (popped (c .before .before .args .n) a b (c .before .before .args .v)) (omega arith)
@@ -17,4 +14,4 @@ unfolding modulo
 returns-2 c a b = rw (popped (c .before .before .args .n) a b (c .before .before .args .v)) (omega arith)
 
 pub pop-exec-spec : {M : Type 1} → statement M
-pop-exec-spec = tie.close (tie.spec wide-requires returns returns-2)
+pop-exec-spec = tie.close (tie.spec (λ c κs. search needs) returns returns-2)

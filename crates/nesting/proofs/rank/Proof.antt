@@ -9,12 +9,6 @@ use Rattle.nesting.specs.Rank.{rankOf}
 use Rattle.nesting.proofs.rank.Statement.{statement}
 use Rattle.nesting.proofs.rank.Tie as tie
 
-extend-requires : tie.Need-extend-requires
-extend-requires c κs = search needs
-
-wrapping-add-u64-requires : tie.Need-wrapping-add-u64-requires
-wrapping-add-u64-requires c κs = search needs
-
 returns : tie.Need-returns
 unfolding extended rankOf
 returns c =
@@ -28,4 +22,4 @@ returns-2 c =
     rw e (omega (arith, rw e at (c .before .extend .ensures)))
 
 pub rank-spec : {M : Type 1} → statement M
-rank-spec = tie.close (tie.spec extend-requires wrapping-add-u64-requires returns returns-2)
+rank-spec = tie.close (tie.spec (λ c κs. search needs) (λ c κs. search needs) returns returns-2)

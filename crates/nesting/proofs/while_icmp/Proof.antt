@@ -6,12 +6,6 @@ use Rattle.machine.specs.Meaning.{whileIcmp}
 use Rattle.nesting.proofs.while_icmp.Statement.{statement}
 use Rattle.nesting.proofs.while_icmp.Tie as tie
 
-wide-requires : tie.Need-wide-requires
-wide-requires c κs = search needs
-
-holds-requires : tie.Need-holds-requires
-holds-requires c κs = search needs
-
 returns : tie.Need-returns
 unfolding modulo whileIcmp
 returns c =
@@ -31,4 +25,4 @@ returns-3 c =
     rw (le-ltb (a .v) (a .o .n) (omega arith)) (omega arith)
 
 pub while-icmp-spec : {M : Type 1} → statement M
-while-icmp-spec = tie.close (tie.spec wide-requires holds-requires returns returns-2 returns-3)
+while-icmp-spec = tie.close (tie.spec (λ c κs. search needs) (λ c κs. search needs) returns returns-2 returns-3)

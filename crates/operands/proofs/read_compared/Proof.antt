@@ -3,27 +3,9 @@ use borrow.Author.Needs.{needs}
 use Rattle.operands.proofs.read_compared.Statement.{statement}
 use Rattle.operands.proofs.read_compared.Tie as tie
 
-source-requires : tie.Need-source-requires
-source-requires c κs = search needs
-
-enum-known-a : tie.Need-enum-known-a
-enum-known-a c = search needs
-
-enum-told : tie.Need-enum-told
-enum-told c = search needs
-
 returns : tie.Need-returns
 unfolding compared
 returns c = rw (← c .before .before .source .ensures, c .enum-told .given .1)
-
-source-requires-2 : tie.Need-source-requires-2
-source-requires-2 c κs = search needs
-
-enum-known-b : tie.Need-enum-known-b
-enum-known-b c = search needs
-
-enum-told-2 : tie.Need-enum-told-2
-enum-told-2 c = search needs
 
 returns-2 : tie.Need-returns-2
 unfolding compared
@@ -37,12 +19,5 @@ pub read-compared-spec : {M : Type 1} → statement M
 read-compared-spec =
     tie.close
     (tie.spec
-    source-requires
-    enum-known-a
-    enum-told
-    returns
-    source-requires-2
-    enum-known-b
-    enum-told-2
-    returns-2
-    returns-3)
+    (λ c κs. search needs) (λ c. search needs) (λ c. search needs) returns (λ c κs. search needs) (λ c. search needs)
+    (λ c. search needs) returns-2 returns-3)

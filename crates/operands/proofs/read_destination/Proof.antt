@@ -4,25 +4,13 @@ use borrow.Author.Needs.{needs}
 use Rattle.operands.proofs.read_destination.Statement.{statement}
 use Rattle.operands.proofs.read_destination.Tie as tie
 
-cache-hint-requires : tie.Need-cache-hint-requires
-cache-hint-requires c κs = search needs
-
-cast-t7 : tie.Need-cast-t7
-cast-t7 c = search needs
-
 returns : tie.Need-returns
 unfolding destinationOf
 returns c = search (eq-eqb, ne-eqb, c .before .cache-hint .ensures)
 
-cast-t11 : tie.Need-cast-t11
-cast-t11 c = search needs
-
 returns-2 : tie.Need-returns-2
 unfolding destinationOf
 returns-2 c = search (eq-eqb, ne-eqb, c .before .before .cache-hint .ensures)
-
-cast-t16 : tie.Need-cast-t16
-cast-t16 c = search needs
 
 returns-3 : tie.Need-returns-3
 unfolding destinationOf
@@ -35,4 +23,5 @@ returns-4 c = search (ne-eqb, c .if3 .left)
 pub read-destination-spec : {M : Type 1} → statement M
 read-destination-spec =
     tie.close
-    (tie.spec cache-hint-requires cast-t7 returns cast-t11 returns-2 cast-t16 returns-3 returns-4)
+    (tie.spec
+    (λ c κs. search needs) (λ c. search needs) returns (λ c. search needs) returns-2 (λ c. search needs) returns-3 returns-4)

@@ -4,31 +4,13 @@ use borrow.Author.Needs.{needs}
 use Rattle.operands.proofs.read_source.Statement.{statement}
 use Rattle.operands.proofs.read_source.Tie as tie
 
-source-hint-requires : tie.Need-source-hint-requires
-source-hint-requires c κs = search needs
-
-cast-t9 : tie.Need-cast-t9
-cast-t9 c = search needs
-
 returns : tie.Need-returns
 unfolding sourceOf
 returns c = search (eq-eqb, ne-eqb)
 
-cast-t13 : tie.Need-cast-t13
-cast-t13 c = search needs
-
 returns-2 : tie.Need-returns-2
 unfolding sourceOf
 returns-2 c = search (eq-eqb, ne-eqb, c .before .before .source-hint .ensures)
-
-mul-read-uniform : tie.Need-mul-read-uniform
-mul-read-uniform c = search needs
-
-add-read-uniform : tie.Need-add-read-uniform
-add-read-uniform c = search needs
-
-read-uniform-requires : tie.Need-read-uniform-requires
-read-uniform-requires c κs = search needs
 
 returns-3 : tie.Need-returns-3
 unfolding sourceOf
@@ -42,15 +24,9 @@ returns-5 : tie.Need-returns-5
 unfolding sourceOf
 returns-5 c = search (eq-eqb, ne-eqb)
 
-cast-t23 : tie.Need-cast-t23
-cast-t23 c = search needs
-
 returns-6 : tie.Need-returns-6
 unfolding sourceOf
 returns-6 c = search (eq-eqb, ne-eqb, c .before .before .before .before .before .source-hint .ensures)
-
-cast-t28 : tie.Need-cast-t28
-cast-t28 c = search needs
 
 returns-7 : tie.Need-returns-7
 unfolding sourceOf
@@ -64,19 +40,5 @@ pub read-source-spec : {M : Type 1} → statement M
 read-source-spec =
     tie.close
     (tie.spec
-    source-hint-requires
-    cast-t9
-    returns
-    cast-t13
-    returns-2
-    mul-read-uniform
-    add-read-uniform
-    read-uniform-requires
-    returns-3
-    returns-4
-    returns-5
-    cast-t23
-    returns-6
-    cast-t28
-    returns-7
-    returns-8)
+    (λ c κs. search needs) (λ c. search needs) returns (λ c. search needs) returns-2 (λ c. search needs) (λ c. search needs)
+    (λ c κs. search needs) returns-3 returns-4 returns-5 (λ c. search needs) returns-6 (λ c. search needs) returns-7 returns-8)

@@ -3,30 +3,9 @@ use borrow.Author.Needs.{needs}
 use Rattle.operands.proofs.read_unary.Statement.{statement}
 use Rattle.operands.proofs.read_unary.Tie as tie
 
-destination-requires : tie.Need-destination-requires
-destination-requires c κs = search needs
-
-enum-known-d : tie.Need-enum-known-d
-enum-known-d c = search needs
-
-enum-told : tie.Need-enum-told
-enum-told c = search needs
-
 returns : tie.Need-returns
 unfolding unary
 returns c = rw (← c .before .before .destination .ensures, c .enum-told .given .1)
-
-sub-source : tie.Need-sub-source
-sub-source c = search needs
-
-source-requires : tie.Need-source-requires
-source-requires c κs = search needs
-
-enum-known-a : tie.Need-enum-known-a
-enum-known-a c = search needs
-
-enum-told-2 : tie.Need-enum-told-2
-enum-told-2 c = search needs
 
 returns-2 : tie.Need-returns-2
 unfolding unary
@@ -40,13 +19,5 @@ pub read-unary-spec : {M : Type 1} → statement M
 read-unary-spec =
     tie.close
     (tie.spec
-    destination-requires
-    enum-known-d
-    enum-told
-    returns
-    sub-source
-    source-requires
-    enum-known-a
-    enum-told-2
-    returns-2
-    returns-3)
+    (λ c κs. search needs) (λ c. search needs) (λ c. search needs) returns (λ c. search needs) (λ c κs. search needs)
+    (λ c. search needs) (λ c. search needs) returns-2 returns-3)

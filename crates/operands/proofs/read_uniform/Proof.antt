@@ -4,15 +4,9 @@ use borrow.Author.Needs.{needs}
 use Rattle.operands.proofs.read_uniform.Statement.{statement}
 use Rattle.operands.proofs.read_uniform.Tie as tie
 
-cast-t6 : tie.Need-cast-t6
-cast-t6 c = search needs
-
 returns : tie.Need-returns
 unfolding uniformOf
 returns c = search (eq-eqb, ne-eqb)
-
-cast-t11 : tie.Need-cast-t11
-cast-t11 c = search needs
 
 returns-2 : tie.Need-returns-2
 unfolding uniformOf
@@ -21,9 +15,6 @@ returns-2 c = search (eq-eqb, ne-eqb)
 returns-3 : tie.Need-returns-3
 unfolding uniformOf
 returns-3 c = search (eq-eqb, ne-eqb)
-
-cast-t16 : tie.Need-cast-t16
-cast-t16 c = search needs
 
 returns-4 : tie.Need-returns-4
 unfolding uniformOf
@@ -35,4 +26,6 @@ returns-5 c = search (eq-eqb, ne-eqb, c .if4 .left)
 
 pub read-uniform-spec : {M : Type 1} → statement M
 read-uniform-spec =
-    tie.close (tie.spec cast-t6 returns cast-t11 returns-2 returns-3 cast-t16 returns-4 returns-5)
+    tie.close
+    (tie.spec
+    (λ c. search needs) returns (λ c. search needs) returns-2 returns-3 (λ c. search needs) returns-4 returns-5)

@@ -8,12 +8,6 @@ use Rattle.isa.proofs.Placed.{kind-within}
 use Rattle.parts.proofs.place.Statement.{statement}
 use Rattle.parts.proofs.place.Tie as tie
 
-parts-of-requires : tie.Need-parts-of-requires
-parts-of-requires c κs = search needs
-
-cast-result : tie.Need-cast-result
-cast-result c = search needs
-
 sub-result : tie.Need-sub-result
 sub-result c =
     let e = ap (λ (p : Parts). p .kind) (c .before .parts-of .ensures) in
@@ -23,4 +17,4 @@ returns : tie.Need-returns
 returns c = ap (λ (p : Parts). p .kind - 1) (c .before .parts-of .ensures)
 
 pub place-spec : {M : Type 1} → statement M
-place-spec = tie.close (tie.spec parts-of-requires cast-result sub-result returns)
+place-spec = tie.close (tie.spec (λ c κs. search needs) (λ c. search needs) sub-result returns)

@@ -6,19 +6,10 @@ use borrow.Author.Needs.{needs}
 use Rattle.parts.proofs.same.Statement.{statement}
 use Rattle.parts.proofs.same.Tie as tie
 
-parts-of-requires : tie.Need-parts-of-requires
-parts-of-requires c κs = search needs
-
-parts-of-requires-2 : tie.Need-parts-of-requires-2
-parts-of-requires-2 c κs = search needs
-
-same-parts-requires : tie.Need-same-parts-requires
-same-parts-requires c κs = search needs
-
 returns : tie.Need-returns
 returns c =
     c .same-parts .ensures
     ∙ ap₂ (λ (p q : Parts). eqList (numbersOf p) (numbersOf q)) (c .before .before .parts-of .ensures) (c .before .parts-of2 .ensures)
 
 pub same-spec : {M : Type 1} → statement M
-same-spec = tie.close (tie.spec parts-of-requires parts-of-requires-2 same-parts-requires returns)
+same-spec = tie.close (tie.spec (λ c κs. search needs) (λ c κs. search needs) (λ c κs. search needs) returns)

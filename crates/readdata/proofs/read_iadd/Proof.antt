@@ -4,39 +4,9 @@ use borrow.Author.Needs.{needs}
 use Rattle.readdata.proofs.read_iadd.Statement.{statement}
 use Rattle.readdata.proofs.read_iadd.Tie as tie
 
-read-binary-requires : tie.Need-read-binary-requires
-read-binary-requires c κs = search needs
-
-enum-known-o : tie.Need-enum-known-o
-enum-known-o c = search needs
-
-enum-told : tie.Need-enum-told
-enum-told c = search needs
-
 returns : tie.Need-returns
 unfolding rows withBinary
 returns c = rw (← c .before .before .read-binary .ensures, c .enum-told .given .1)
-
-cast-t6 : tie.Need-cast-t6
-cast-t6 c = search needs
-
-cast-t9 : tie.Need-cast-t9
-cast-t9 c = search needs
-
-cast-t12 : tie.Need-cast-t12
-cast-t12 c = search needs
-
-cast-t15 : tie.Need-cast-t15
-cast-t15 c = search needs
-
-mul-t18 : tie.Need-mul-t18
-mul-t18 c = search needs
-
-add-t21 : tie.Need-add-t21
-add-t21 c = search needs
-
-cast-t22 : tie.Need-cast-t22
-cast-t22 c = search needs
 
 returns-2 : tie.Need-returns-2
 unfolding rows withBinary
@@ -46,15 +16,5 @@ pub read-iadd-spec : {M : Type 1} → statement M
 read-iadd-spec =
     tie.close
     (tie.spec
-    read-binary-requires
-    enum-known-o
-    enum-told
-    returns
-    cast-t6
-    cast-t9
-    cast-t12
-    cast-t15
-    mul-t18
-    add-t21
-    cast-t22
-    returns-2)
+    (λ c κs. search needs) (λ c. search needs) (λ c. search needs) returns (λ c. search needs) (λ c. search needs)
+    (λ c. search needs) (λ c. search needs) (λ c. search needs) (λ c. search needs) (λ c. search needs) returns-2)

@@ -5,72 +5,6 @@ use borrow.Author.Needs.{needs}
 use Rattle.reading.proofs.read.Statement.{statement}
 use Rattle.reading.proofs.read.Tie as tie
 
-read-mov16-requires : tie.Need-read-mov16-requires
-read-mov16-requires c κs = search needs
-
-read-mov32-requires : tie.Need-read-mov32-requires
-read-mov32-requires c κs = search needs
-
-read-get-sr-requires : tie.Need-read-get-sr-requires
-read-get-sr-requires c κs = search needs
-
-read-iadd-requires : tie.Need-read-iadd-requires
-read-iadd-requires c κs = search needs
-
-read-imadd-requires : tie.Need-read-imadd-requires
-read-imadd-requires c κs = search needs
-
-read-bitfield-requires : tie.Need-read-bitfield-requires
-read-bitfield-requires c κs = search needs
-
-read-bitfield-requires-2 : tie.Need-read-bitfield-requires-2
-read-bitfield-requires-2 c κs = search needs
-
-read-bitfield-requires-3 : tie.Need-read-bitfield-requires-3
-read-bitfield-requires-3 c κs = search needs
-
-read-bitfield-requires-4 : tie.Need-read-bitfield-requires-4
-read-bitfield-requires-4 c κs = search needs
-
-read-bitfield-requires-5 : tie.Need-read-bitfield-requires-5
-read-bitfield-requires-5 c κs = search needs
-
-read-shift-requires : tie.Need-read-shift-requires
-read-shift-requires c κs = search needs
-
-read-shift-requires-2 : tie.Need-read-shift-requires-2
-read-shift-requires-2 c κs = search needs
-
-read-bitop-requires : tie.Need-read-bitop-requires
-read-bitop-requires c κs = search needs
-
-read-scan-requires : tie.Need-read-scan-requires
-read-scan-requires c κs = search needs
-
-read-scan-requires-2 : tie.Need-read-scan-requires-2
-read-scan-requires-2 c κs = search needs
-
-read-scan-requires-3 : tie.Need-read-scan-requires-3
-read-scan-requires-3 c κs = search needs
-
-read-jmp-exec-any-requires : tie.Need-read-jmp-exec-any-requires
-read-jmp-exec-any-requires c κs = search needs
-
-read-jmp-exec-none-requires : tie.Need-read-jmp-exec-none-requires
-read-jmp-exec-none-requires c κs = search needs
-
-read-pop-exec-requires : tie.Need-read-pop-exec-requires
-read-pop-exec-requires c κs = search needs
-
-read-compare-requires : tie.Need-read-compare-requires
-read-compare-requires c κs = search needs
-
-read-compare-requires-2 : tie.Need-read-compare-requires-2
-read-compare-requires-2 c κs = search needs
-
-read-compare-requires-3 : tie.Need-read-compare-requires-3
-read-compare-requires-3 c κs = search needs
-
 returns : tie.Need-returns
 unfolding rows
 returns c = rw (c .before .match .keys1) (c .read-mov16 .ensures)
@@ -163,47 +97,10 @@ pub read-spec : {M : Type 1} → statement M
 read-spec =
     tie.close
     (tie.spec
-    read-mov16-requires
-    read-mov32-requires
-    read-get-sr-requires
-    read-iadd-requires
-    read-imadd-requires
-    read-bitfield-requires
-    read-bitfield-requires-2
-    read-bitfield-requires-3
-    read-bitfield-requires-4
-    read-bitfield-requires-5
-    read-shift-requires
-    read-shift-requires-2
-    read-bitop-requires
-    read-scan-requires
-    read-scan-requires-2
-    read-scan-requires-3
-    read-jmp-exec-any-requires
-    read-jmp-exec-none-requires
-    read-pop-exec-requires
-    read-compare-requires
-    read-compare-requires-2
-    read-compare-requires-3
-    returns
-    returns-2
-    returns-3
-    returns-4
-    returns-5
-    returns-6
-    returns-7
-    returns-8
-    returns-9
-    returns-10
-    returns-11
-    returns-12
-    returns-13
-    returns-14
-    returns-15
-    returns-16
-    returns-17
-    returns-18
-    returns-19
-    returns-20
-    returns-21
-    returns-22)
+    (λ c κs. search needs) (λ c κs. search needs) (λ c κs. search needs) (λ c κs. search needs) (λ c κs. search needs)
+    (λ c κs. search needs) (λ c κs. search needs) (λ c κs. search needs) (λ c κs. search needs) (λ c κs. search needs)
+    (λ c κs. search needs) (λ c κs. search needs) (λ c κs. search needs) (λ c κs. search needs) (λ c κs. search needs)
+    (λ c κs. search needs) (λ c κs. search needs) (λ c κs. search needs) (λ c κs. search needs) (λ c κs. search needs)
+    (λ c κs. search needs) (λ c κs. search needs) returns returns-2 returns-3 returns-4 returns-5 returns-6 returns-7 returns-8
+    returns-9 returns-10 returns-11 returns-12 returns-13 returns-14 returns-15 returns-16 returns-17 returns-18 returns-19
+    returns-20 returns-21 returns-22)

@@ -6,18 +6,6 @@ use borrow.Author.Needs.{needs}
 use Rattle.recode.proofs.encode_again.Statement.{statement}
 use Rattle.recode.proofs.encode_again.Tie as tie
 
-to-bytes-requires : tie.Need-to-bytes-requires
-to-bytes-requires c κs = search needs
-
-slice-aggregate-encode-form : tie.Need-slice-aggregate-encode-form
-slice-aggregate-encode-form c = search needs
-
-encode-form-requires : tie.Need-encode-form-requires
-encode-form-requires c κs = search needs
-
-same-length : tie.Need-same-length
-same-length c = search needs
-
 returns : tie.Need-returns
 returns c =
     let f = c .before .before .before .before .before in
@@ -28,8 +16,4 @@ pub encode-again-spec : {M : Type 1} → statement M
 encode-again-spec =
     tie.close
     (tie.spec
-    to-bytes-requires
-    slice-aggregate-encode-form
-    encode-form-requires
-    same-length
-    returns)
+    (λ c κs. search needs) (λ c. search needs) (λ c κs. search needs) (λ c. search needs) returns)

@@ -38,33 +38,6 @@ returns c =
 loop-holds : tie.Need-loop-holds Inv-loop μ-loop
 loop-holds c = (refl, omega arith, refl)
 
-sub-decode : tie.Need-sub-decode Inv-loop μ-loop
-sub-decode c = omega arith
-
-part-decode-start : tie.Need-part-decode-start Inv-loop μ-loop
-part-decode-start c = omega arith
-
-part-decode-end : tie.Need-part-decode-end Inv-loop μ-loop
-part-decode-end c = omega arith
-
-decode-requires : tie.Need-decode-requires Inv-loop μ-loop
-decode-requires c κs = search needs
-
-enum-known-i : tie.Need-enum-known-i Inv-loop μ-loop
-enum-known-i c = search needs
-
-sub-encode-again : tie.Need-sub-encode-again Inv-loop μ-loop
-sub-encode-again c = omega arith
-
-part-encode-again-start : tie.Need-part-encode-again-start Inv-loop μ-loop
-part-encode-again-start c = omega arith
-
-part-encode-again-end : tie.Need-part-encode-again-end Inv-loop μ-loop
-part-encode-again-end c = omega arith
-
-encode-again-requires : tie.Need-encode-again-requires Inv-loop μ-loop
-encode-again-requires c κs = search needs
-
 add-at : tie.Need-add-at Inv-loop μ-loop
 add-at c = omega (arith, found (c .before .before .before .before) .within)
 
@@ -76,27 +49,12 @@ loop-again c =
     let t = found (c .before .before .before .before) in
     (t .encoded _ (c .before .before .encode-again .ensures), omega (arith, t .within), omega arith)
 
-enum-told : tie.Need-enum-told Inv-loop μ-loop
-enum-told c = search needs
-
-sub-put : tie.Need-sub-put Inv-loop μ-loop
-sub-put c = omega arith
-
-part-put-start : tie.Need-part-put-start Inv-loop μ-loop
-part-put-start c = omega arith
-
-part-put-end : tie.Need-part-put-end Inv-loop μ-loop
-part-put-end c = omega arith
-
 put-requires : tie.Need-put-requires Inv-loop μ-loop
 put-requires c κs =
     let l = c .before .before .before .before .before .before .before in
     let a = l .before .before .before .before .args in
     let f = fits-rest (a .code .now) (a .out .now) (l .loop .out) (l .loop .at) (l .loop .inv .0) (l .loop .inv .1) (omega arith) in
     omega arith
-
-loop-less-2 : tie.Need-loop-less-2 Inv-loop μ-loop
-loop-less-2 c = omega arith
 
 loop-again-2 : tie.Need-loop-again-2 Inv-loop μ-loop
 loop-again-2 c =
@@ -106,9 +64,6 @@ loop-again-2 c =
     (copied (a .code .now) (a .out .now) (l .loop .out) (l .loop .at) (v .0) (v .1) (omega arith) _ (c .before .before .put .ensures),
       omega arith,
       omega arith)
-
-same-length : tie.Need-same-length Inv-loop μ-loop
-same-length c = omega arith
 
 returns-2 : tie.Need-returns-2 Inv-loop μ-loop
 returns-2 c =
@@ -121,28 +76,7 @@ pub recode-spec : {M : Type 1} → statement M
 recode-spec =
     tie.close
     (tie.spec
-    Inv-loop
-    μ-loop
-    returns
-    loop-holds
-    sub-decode
-    part-decode-start
-    part-decode-end
-    decode-requires
-    enum-known-i
-    sub-encode-again
-    part-encode-again-start
-    part-encode-again-end
-    encode-again-requires
-    add-at
-    loop-less
-    loop-again
-    enum-told
-    sub-put
-    part-put-start
-    part-put-end
-    put-requires
-    loop-less-2
-    loop-again-2
-    same-length
-    returns-2)
+    Inv-loop μ-loop returns loop-holds (λ c. omega arith) (λ c. omega arith) (λ c. omega arith) (λ c κs. search needs)
+    (λ c. search needs) (λ c. omega arith) (λ c. omega arith) (λ c. omega arith) (λ c κs. search needs) add-at loop-less
+    loop-again (λ c. search needs) (λ c. omega arith) (λ c. omega arith) (λ c. omega arith) put-requires (λ c. omega arith)
+    loop-again-2 (λ c. omega arith) returns-2)

@@ -10,29 +10,8 @@ use borrow.Author.Needs.{needs}
 use Rattle.recoder.proofs.list_again.Statement.{statement}
 use Rattle.recoder.proofs.list_again.Tie as tie
 
-recode-requires : tie.Need-recode-requires
-recode-requires c κs = search needs
-
-slice-reshare-prefix-list : tie.Need-slice-reshare-prefix-list
-slice-reshare-prefix-list c = search needs
-
 slice-aggregate-list : tie.Need-slice-aggregate-list
 slice-aggregate-list c = sym (length-take-le _ _ (omega arith))
-
-list-requires : tie.Need-list-requires
-list-requires c κs = search needs
-
-enum-known-k : tie.Need-enum-known-k
-enum-known-k c = search needs
-
-enum-told : tie.Need-enum-told
-enum-told c = search needs
-
-same-length : tie.Need-same-length
-same-length c = search needs
-
-same-length-2 : tie.Need-same-length-2
-same-length-2 c = search needs
 
 returns : tie.Need-returns
 returns c =
@@ -51,12 +30,6 @@ returns c =
           ∙ left-first code (s .args .out .now) (λ j. p .shared-slice-known .given j .fits) (s .pre .0) in
     ((t .0, sym (length-take-le (k .0 .0) new (t .0))), t .1 ∙ ap listingOf e)
 
-same-length-3 : tie.Need-same-length-3
-same-length-3 c = search needs
-
-same-length-4 : tie.Need-same-length-4
-same-length-4 c = search needs
-
 returns-2 : tie.Need-returns-2
 returns-2 c =
     let l = c .before .before .before .before .list in
@@ -71,15 +44,5 @@ pub list-again-spec : {M : Type 1} → statement M
 list-again-spec =
     tie.close
     (tie.spec
-    recode-requires
-    slice-reshare-prefix-list
-    slice-aggregate-list
-    list-requires
-    enum-known-k
-    enum-told
-    same-length
-    same-length-2
-    returns
-    same-length-3
-    same-length-4
-    returns-2)
+    (λ c κs. search needs) (λ c. search needs) slice-aggregate-list (λ c κs. search needs) (λ c. search needs) (λ c. search needs)
+    (λ c. search needs) (λ c. search needs) returns (λ c. search needs) (λ c. search needs) returns-2)

@@ -6,14 +6,8 @@ use Rattle.reedtassel.proofs.Encoding.{count-small}
 use Rattle.reedtassel.proofs.reedtassel_encode.Statement.{statement}
 use Rattle.reedtassel.proofs.reedtassel_encode.Tie as tie
 
-encode-form-requires : tie.Need-encode-form-requires
-encode-form-requires c κs = search needs
-
 encoded-requires : tie.Need-encoded-requires
 encoded-requires c κs = count-small _ _ _ (c .before .before .encode-form .ensures .0)
-
-same-length : tie.Need-same-length
-same-length c = search needs
 
 returns : tie.Need-returns
 returns c =
@@ -21,5 +15,4 @@ returns c =
     record { returns = handed-on (c .encoded .result) (c .encoded .ok) ∙ c .encoded .ensures ∙ ap encodedBy (e .0); leaves = e .1 }
 
 pub reedtassel-encode-spec : {M : Type 1} → statement M
-reedtassel-encode-spec =
-    tie.close (tie.spec encode-form-requires encoded-requires same-length returns)
+reedtassel-encode-spec = tie.close (tie.spec (λ c κs. search needs) encoded-requires (λ c. search needs) returns)

@@ -5,21 +5,6 @@ use Rattle.answers.proofs.Numbers.{handed-on}
 use Rattle.reedtassel.proofs.reedtassel_run.Statement.{statement}
 use Rattle.reedtassel.proofs.reedtassel_run.Tie as tie
 
-run-requires : tie.Need-run-requires
-run-requires c κs = search needs
-
-ended-requires : tie.Need-ended-requires
-ended-requires c κs = search needs
-
-same-length : tie.Need-same-length
-same-length c = search needs
-
-same-length-2 : tie.Need-same-length-2
-same-length-2 c = search needs
-
-same-length-3 : tie.Need-same-length-3
-same-length-3 c = search needs
-
 returns : tie.Need-returns
 returns c =
     let e = c .before .before .before .before .before .before .before .run .ensures in
@@ -28,4 +13,5 @@ returns c =
 pub reedtassel-run-spec : {M : Type 1} → statement M
 reedtassel-run-spec =
     tie.close
-    (tie.spec run-requires ended-requires same-length same-length-2 same-length-3 returns)
+    (tie.spec
+    (λ c κs. search needs) (λ c κs. search needs) (λ c. search needs) (λ c. search needs) (λ c. search needs) returns)

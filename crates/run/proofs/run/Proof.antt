@@ -18,9 +18,6 @@ abbrev μ-loop : tie.MeasureT-loop
 μ-loop code registers₀ uniforms specials start mask budget records₀ address₀ active₀ steps₀ registers records address active steps =
     budget - steps
 
-arranged-requires : tie.Need-arranged-requires Inv-loop μ-loop
-arranged-requires c κs = search needs
-
 returns : tie.Need-returns Inv-loop μ-loop
 returns c =
     let t = c .before .arranged in
@@ -40,12 +37,6 @@ same-length-2 c = c .before .before .loop .inv .roomKept
 returns-2 : tie.Need-returns-2 Inv-loop μ-loop
 returns-2 c = at-spent (c .before .before .loop .inv) (c .before .loop-test .taken) (c .if2 .taken)
 
-step-requires : tie.Need-step-requires Inv-loop μ-loop
-step-requires c κs = omega arith
-
-enum-known-r : tie.Need-enum-known-r Inv-loop μ-loop
-enum-known-r c = search needs
-
 same-length-3 : tie.Need-same-length-3 Inv-loop μ-loop
 same-length-3 c =
     let s = c .before .before .before .before .before in
@@ -62,26 +53,8 @@ returns-3 c =
     at-refusal (l .before .before .loop .inv) (l .before .loop-test .taken) (l .if2 .left) (s .step .result) (s .step .last .1 .0)
     (s .step .ensures) (r .0 .0) (r .1)
 
-enum-known-next : tie.Need-enum-known-next Inv-loop μ-loop
-enum-known-next c = search needs
-
-record-requires : tie.Need-record-requires Inv-loop μ-loop
-record-requires c κs = search needs
-
-mul-put : tie.Need-mul-put Inv-loop μ-loop
-mul-put c = omega arith
-
-slice-aggregate-put : tie.Need-slice-aggregate-put Inv-loop μ-loop
-slice-aggregate-put c = search needs
-
 put-requires : tie.Need-put-requires Inv-loop μ-loop
 put-requires c κs = omega (arith, ap length (c .before .before .«record» .ensures))
-
-add-steps : tie.Need-add-steps Inv-loop μ-loop
-add-steps c = omega arith
-
-loop-less : tie.Need-loop-less Inv-loop μ-loop
-loop-less c = omega arith
 
 loop-again : tie.Need-loop-again Inv-loop μ-loop
 loop-again c =
@@ -107,27 +80,6 @@ pub run-spec : {M : Type 1} → statement M
 run-spec =
     tie.close
     (tie.spec
-    Inv-loop
-    μ-loop
-    arranged-requires
-    returns
-    loop-holds
-    same-length
-    same-length-2
-    returns-2
-    step-requires
-    enum-known-r
-    same-length-3
-    same-length-4
-    returns-3
-    enum-known-next
-    record-requires
-    mul-put
-    slice-aggregate-put
-    put-requires
-    add-steps
-    loop-less
-    loop-again
-    same-length-5
-    same-length-6
-    returns-4)
+    Inv-loop μ-loop (λ c κs. search needs) returns loop-holds same-length same-length-2 returns-2 (λ c κs. omega arith)
+    (λ c. search needs) same-length-3 same-length-4 returns-3 (λ c. search needs) (λ c κs. search needs) (λ c. omega arith)
+    (λ c. search needs) put-requires (λ c. omega arith) (λ c. omega arith) loop-again same-length-5 same-length-6 returns-4)

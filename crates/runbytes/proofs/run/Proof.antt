@@ -8,17 +8,11 @@ use Rattle.runbytes.proofs.Lengths.{Known, not-spelled, not-arranged, i
 use Rattle.runbytes.proofs.run.Statement.{statement}
 use Rattle.runbytes.proofs.run.Tie as tie
 
-spelled-requires : tie.Need-spelled-requires
-spelled-requires c κs = search needs
-
 returns : tie.Need-returns
 returns c =
     let a = c .before .before .before .before .before .before .before .before .args in
     let l = lentOf (a .code .now) (a .registers .now) (a .uniforms .now) (a .specials .now) (a .start) (a .mask) (a .budget) (a .records .now) (a .answer .now) in
     not-spelled l _ (c .before .spelled .ensures) (c .if1 .taken)
-
-arranged-requires : tie.Need-arranged-requires
-arranged-requires c κs = search needs
 
 returns-2 : tie.Need-returns-2
 returns-2 c =
@@ -42,9 +36,6 @@ array-borrow-prefix-r c = known (c .before .before .before) .registers-most
 slice-aggregate-run-in : tie.Need-slice-aggregate-run-in
 slice-aggregate-run-in c = sym (length-take-le _ _ (known (c .before .before .before .before) .registers-most))
 
-slice-aggregate-run-in-2 : tie.Need-slice-aggregate-run-in-2
-slice-aggregate-run-in-2 c = search needs
-
 array-borrow-prefix-s : tie.Need-array-borrow-prefix-s
 array-borrow-prefix-s c = known (c .before .before .before .before .before) .specials-most
 
@@ -56,15 +47,6 @@ run-in-requires c κs =
     let h = known (c .before .before .before .before .before .before) in
     h .space _ _ _ (length-take-le _ _ (h .registers-most)) refl (length-take-le _ _ (h .specials-most))
 
-same-length : tie.Need-same-length
-same-length c = search needs
-
-same-length-2 : tie.Need-same-length-2
-same-length-2 c = search needs
-
-same-length-3 : tie.Need-same-length-3
-same-length-3 c = search needs
-
 returns-3 : tie.Need-returns-3
 returns-3 c = c .before .before .before .before .before .before .before .before .before .run-in .ensures .ran
 
@@ -72,17 +54,6 @@ pub run-spec : {M : Type 1} → statement M
 run-spec =
     tie.close
     (tie.spec
-    spelled-requires
-    returns
-    arranged-requires
-    returns-2
-    array-borrow-prefix-r
-    slice-aggregate-run-in
-    slice-aggregate-run-in-2
-    array-borrow-prefix-s
-    slice-aggregate-run-in-3
-    run-in-requires
-    same-length
-    same-length-2
-    same-length-3
-    returns-3)
+    (λ c κs. search needs) returns (λ c κs. search needs) returns-2 array-borrow-prefix-r slice-aggregate-run-in
+    (λ c. search needs) array-borrow-prefix-s slice-aggregate-run-in-3 run-in-requires (λ c. search needs) (λ c. search needs)
+    (λ c. search needs) returns-3)

@@ -7,54 +7,21 @@ use Rattle.runbytes.proofs.Runs.{runs}
 use Rattle.runbytes.proofs.run_in.Statement.{statement}
 use Rattle.runbytes.proofs.run_in.Tie as tie
 
-load-requires : tie.Need-load-requires
-load-requires c κs = search needs
-
-load-requires-2 : tie.Need-load-requires-2
-load-requires-2 c κs = search needs
-
-load-requires-3 : tie.Need-load-requires-3
-load-requires-3 c κs = search needs
-
-run-requires : tie.Need-run-requires
-run-requires c κs = search needs
-
 store-requires : tie.Need-store-requires
 store-requires c κs =
     let g = c .before .before .before .before .before .before in
     let l = g .before .before .before .before .before .before .before .before .before .before .before .before .before .before .before in
     omega (arith, g .run .kept .1 .0, l .load .kept .1 .0, l .before .before .before .before .before .before .before .before .before .before .before .before .pre .registers-fit)
 
-bytes-requires : tie.Need-bytes-requires
-bytes-requires c κs = search needs
-
-slice-aggregate-put : tie.Need-slice-aggregate-put
-slice-aggregate-put c = search needs
-
 put-requires : tie.Need-put-requires
 put-requires c κs =
     let b = c .before .before in
     omega (arith, ap length (b .bytes .ensures), b .before .before .before .before .before .before .before .before .before .before .before .before .before .before .before .before .before .before .before .before .before .before .before .before .before .before .before .before .before .before .before .before .before .before .before .before .before .pre .answer-fits)
 
-same-length : tie.Need-same-length
-same-length c = search needs
-
-same-length-2 : tie.Need-same-length-2
-same-length-2 c = search needs
-
-same-length-3 : tie.Need-same-length-3
-same-length-3 c = search needs
-
 same-length-4 : tie.Need-same-length-4
 same-length-4 c =
     let g = c .before .before .before .before .before .before .before .before .before .before .before .before .before .before .before in
     g .run .kept .1 .0 ∙ g .before .before .before .before .before .before .before .before .before .before .before .before .before .before .before .load .kept .1 .0
-
-same-length-5 : tie.Need-same-length-5
-same-length-5 c = search needs
-
-same-length-6 : tie.Need-same-length-6
-same-length-6 c = search needs
 
 returns : tie.Need-returns
 returns c =
@@ -73,18 +40,6 @@ pub run-in-spec : {M : Type 1} → statement M
 run-in-spec =
     tie.close
     (tie.spec
-    load-requires
-    load-requires-2
-    load-requires-3
-    run-requires
-    store-requires
-    bytes-requires
-    slice-aggregate-put
-    put-requires
-    same-length
-    same-length-2
-    same-length-3
-    same-length-4
-    same-length-5
-    same-length-6
-    returns)
+    (λ c κs. search needs) (λ c κs. search needs) (λ c κs. search needs) (λ c κs. search needs) store-requires
+    (λ c κs. search needs) (λ c. search needs) put-requires (λ c. search needs) (λ c. search needs) (λ c. search needs)
+    same-length-4 (λ c. search needs) (λ c. search needs) returns)

@@ -7,12 +7,6 @@ use Rattle.signs.proofs.Modulo.{extended-reads}
 use Rattle.signs.proofs.asr.Statement.{statement}
 use Rattle.signs.proofs.asr.Tie as tie
 
-extend-requires : tie.Need-extend-requires
-extend-requires c κs = search needs
-
-shift-signed-requires : tie.Need-shift-signed-requires
-shift-signed-requires c κs = search needs
-
 returns : tie.Need-returns
 unfolding extended asr
 returns c =
@@ -23,4 +17,4 @@ returns c =
     λ _. c .shift-signed .ensures ∙ ap (λ (z : ℤ). modulo (z >> shiftAmount (a .b)) 64) e
 
 pub asr-spec : {M : Type 1} → statement M
-asr-spec = tie.close (tie.spec extend-requires shift-signed-requires returns)
+asr-spec = tie.close (tie.spec (λ c κs. search needs) (λ c κs. search needs) returns)

@@ -10,18 +10,6 @@ use Rattle.signs.proofs.Shifts.{up-left, down-left}
 use Rattle.signs.proofs.asrh.Statement.{statement}
 use Rattle.signs.proofs.asrh.Tie as tie
 
-extend-requires : tie.Need-extend-requires
-extend-requires c κs = search needs
-
-sub-result : tie.Need-sub-result
-sub-result c = search needs
-
-shl-result : tie.Need-shl-result
-shl-result c = search needs
-
-shift-signed-requires : tie.Need-shift-signed-requires
-shift-signed-requires c κs = search needs
-
 returns : tie.Need-returns
 unfolding extended asrh
 returns c =
@@ -45,4 +33,5 @@ returns-2 c =
 pub asrh-spec : {M : Type 1} → statement M
 asrh-spec =
     tie.close
-    (tie.spec extend-requires sub-result shl-result shift-signed-requires returns returns-2)
+    (tie.spec
+    (λ c κs. search needs) (λ c. search needs) (λ c. search needs) (λ c κs. search needs) returns returns-2)

@@ -7,18 +7,6 @@ use Rattle.signs.proofs.Modulo.{sign-power, xor-extends}
 use Rattle.signs.proofs.extend.Statement.{statement}
 use Rattle.signs.proofs.extend.Tie as tie
 
-sub-top : tie.Need-sub-top
-sub-top c = search needs
-
-cast-top : tie.Need-cast-top
-cast-top c = search needs
-
-shl-top : tie.Need-shl-top
-shl-top c = search needs
-
-wrapping-sub-u64-requires : tie.Need-wrapping-sub-u64-requires
-wrapping-sub-u64-requires c κs = search needs
-
 returns : tie.Need-returns
 unfolding extended
 returns c =
@@ -33,4 +21,6 @@ returns-2 c = rw (ne-eqb (c .before .args .signed) 1 (c .if1 .left)) (omega arit
 
 pub extend-spec : {M : Type 1} → statement M
 extend-spec =
-    tie.close (tie.spec sub-top cast-top shl-top wrapping-sub-u64-requires returns returns-2)
+    tie.close
+    (tie.spec
+    (λ c. search needs) (λ c. search needs) (λ c. search needs) (λ c κs. search needs) returns returns-2)

@@ -5,12 +5,6 @@ use Rattle.signs.proofs.Shifts.{down-clear, down-set}
 use Rattle.signs.proofs.shift_signed.Statement.{statement}
 use Rattle.signs.proofs.shift_signed.Tie as tie
 
-shift-requires : tie.Need-shift-requires
-shift-requires c κs = search needs
-
-shift-requires-2 : tie.Need-shift-requires-2
-shift-requires-2 c κs = search needs
-
 returns : tie.Need-returns
 returns c = c .shift .ensures ∙ down-clear (c .before .before .args .x) (c .before .before .args .k) (c .before .if1 .taken)
 
@@ -20,4 +14,4 @@ returns-2 c =
     ∙ down-set (c .before .before .args .x) (c .before .before .args .k) (c .before .if1 .left)
 
 pub shift-signed-spec : {M : Type 1} → statement M
-shift-signed-spec = tie.close (tie.spec shift-requires shift-requires-2 returns returns-2)
+shift-signed-spec = tie.close (tie.spec (λ c κs. search needs) (λ c κs. search needs) returns returns-2)

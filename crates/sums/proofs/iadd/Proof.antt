@@ -31,27 +31,6 @@ whole c =
     (c .wrapping-add-u64 .result) (c .before .before .before .extend .ensures) (c .before .before .extend2 .ensures)
     (c .before .term .ensures) (c .wrapping-add-u64 .ensures)
 
-extend-requires : tie.Need-extend-requires
-extend-requires c κs = search needs
-
-extend-requires-2 : tie.Need-extend-requires-2
-extend-requires-2 c κs = search needs
-
-term-requires : tie.Need-term-requires
-term-requires c κs = search needs
-
-wrapping-add-u64-requires : tie.Need-wrapping-add-u64-requires
-wrapping-add-u64-requires c κs = search needs
-
-saturating-requires : tie.Need-saturating-requires
-saturating-requires c κs = search needs
-
-signed-requires : tie.Need-signed-requires
-signed-requires c κs = search needs
-
-limited-requires : tie.Need-limited-requires
-limited-requires c κs = search needs
-
 returns : tie.Need-returns
 returns c k =
     let w = c .before .before .before .before in
@@ -79,12 +58,5 @@ pub iadd-spec : {M : Type 1} → statement M
 iadd-spec =
     tie.close
     (tie.spec
-    extend-requires
-    extend-requires-2
-    term-requires
-    wrapping-add-u64-requires
-    saturating-requires
-    signed-requires
-    limited-requires
-    returns
-    returns-2)
+    (λ c κs. search needs) (λ c κs. search needs) (λ c κs. search needs) (λ c κs. search needs) (λ c κs. search needs)
+    (λ c κs. search needs) (λ c κs. search needs) returns returns-2)

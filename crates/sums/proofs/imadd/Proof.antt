@@ -62,38 +62,11 @@ whole c most p r ep er =
     added (o .negate) (o .shift) (capped most (first s *ℤ second s)) (third s) p (c .before .extend3 .result) (c .term .result) r
     (ep ∙ (λ i. modulo (capped most (e i *ℤ f i)) 64)) (c .before .extend3 .ensures) (c .term .ensures) er
 
-extend-requires : tie.Need-extend-requires
-extend-requires c κs = search needs
-
-extend-requires-2 : tie.Need-extend-requires-2
-extend-requires-2 c κs = search needs
-
-extend-requires-3 : tie.Need-extend-requires-3
-extend-requires-3 c κs = search needs
-
-term-requires : tie.Need-term-requires
-term-requires c κs = search needs
-
-saturating-requires : tie.Need-saturating-requires
-saturating-requires c κs = search needs
-
 product-requires : tie.Need-product-requires
 product-requires c κs = factors-near (c .before .before .before .before)
 
-wrapping-add-u64-requires : tie.Need-wrapping-add-u64-requires
-wrapping-add-u64-requires c κs = search needs
-
-signed-requires : tie.Need-signed-requires
-signed-requires c κs = search needs
-
-limited-requires : tie.Need-limited-requires
-limited-requires c κs = search needs
-
 product-requires-2 : tie.Need-product-requires-2
 product-requires-2 c κs = factors-near (c .before .before .before .before)
-
-wrapping-add-u64-requires-2 : tie.Need-wrapping-add-u64-requires-2
-wrapping-add-u64-requires-2 c κs = search needs
 
 returns : tie.Need-returns
 returns c =
@@ -133,16 +106,6 @@ pub imadd-spec : {M : Type 1} → statement M
 imadd-spec =
     tie.close
     (tie.spec
-    extend-requires
-    extend-requires-2
-    extend-requires-3
-    term-requires
-    saturating-requires
-    product-requires
-    wrapping-add-u64-requires
-    signed-requires
-    limited-requires
-    product-requires-2
-    wrapping-add-u64-requires-2
-    returns
-    returns-2)
+    (λ c κs. search needs) (λ c κs. search needs) (λ c κs. search needs) (λ c κs. search needs) (λ c κs. search needs)
+    product-requires (λ c κs. search needs) (λ c κs. search needs) (λ c κs. search needs) product-requires-2
+    (λ c κs. search needs) returns returns-2)

@@ -7,21 +7,6 @@ use borrow.Author.Needs.{needs}
 use Rattle.writing.proofs.word_bitfield.Statement.{statement}
 use Rattle.writing.proofs.word_bitfield.Tie as tie
 
-of-dst-requires : tie.Need-of-dst-requires
-of-dst-requires c κs = search needs
-
-of-src-requires : tie.Need-of-src-requires
-of-src-requires c κs = search needs
-
-of-src-requires-2 : tie.Need-of-src-requires-2
-of-src-requires-2 c κs = search needs
-
-of-src-requires-3 : tie.Need-of-src-requires-3
-of-src-requires-3 c κs = search needs
-
-cast-m : tie.Need-cast-m
-cast-m c = search needs
-
 returns : tie.Need-returns
 unfolding rows
 returns c =
@@ -38,4 +23,5 @@ returns c =
 pub word-bitfield-spec : {M : Type 1} → statement M
 word-bitfield-spec =
     tie.close
-    (tie.spec of-dst-requires of-src-requires of-src-requires-2 of-src-requires-3 cast-m returns)
+    (tie.spec
+    (λ c κs. search needs) (λ c κs. search needs) (λ c κs. search needs) (λ c κs. search needs) (λ c. search needs) returns)

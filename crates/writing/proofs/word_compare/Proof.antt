@@ -8,24 +8,6 @@ use borrow.Author.Needs.{needs}
 use Rattle.writing.proofs.word_compare.Statement.{statement}
 use Rattle.writing.proofs.word_compare.Tie as tie
 
-of-src-requires : tie.Need-of-src-requires
-of-src-requires c κs = search needs
-
-of-src-requires-2 : tie.Need-of-src-requires-2
-of-src-requires-2 c κs = search needs
-
-cache-bit-requires : tie.Need-cache-bit-requires
-cache-bit-requires c κs = search needs
-
-cast-result : tie.Need-cast-result
-cast-result c = search needs
-
-cast-result-2 : tie.Need-cast-result-2
-cast-result-2 c = search needs
-
-cast-result-3 : tie.Need-cast-result-3
-cast-result-3 c = search needs
-
 returns : tie.Need-returns
 unfolding rows
 returns c =
@@ -42,10 +24,5 @@ pub word-compare-spec : {M : Type 1} → statement M
 word-compare-spec =
     tie.close
     (tie.spec
-    of-src-requires
-    of-src-requires-2
-    cache-bit-requires
-    cast-result
-    cast-result-2
-    cast-result-3
-    returns)
+    (λ c κs. search needs) (λ c κs. search needs) (λ c κs. search needs) (λ c. search needs) (λ c. search needs)
+    (λ c. search needs) returns)

@@ -6,138 +6,6 @@ use borrow.Author.Needs.{needs}
 use Rattle.writing.proofs.word_for.Statement.{statement}
 use Rattle.writing.proofs.word_for.Tie as tie
 
-enum-known-i : tie.Need-enum-known-i
-enum-known-i c = search needs
-
-word-mov16-requires : tie.Need-word-mov16-requires
-word-mov16-requires c κs = search needs
-
-enum-known-i-2 : tie.Need-enum-known-i-2
-enum-known-i-2 c = search needs
-
-word-mov32-requires : tie.Need-word-mov32-requires
-word-mov32-requires c κs = search needs
-
-enum-known-i-3 : tie.Need-enum-known-i-3
-enum-known-i-3 c = search needs
-
-word-get-sr-requires : tie.Need-word-get-sr-requires
-word-get-sr-requires c κs = search needs
-
-enum-known-i-4 : tie.Need-enum-known-i-4
-enum-known-i-4 c = search needs
-
-word-iadd-requires : tie.Need-word-iadd-requires
-word-iadd-requires c κs = search needs
-
-enum-known-i-5 : tie.Need-enum-known-i-5
-enum-known-i-5 c = search needs
-
-word-imadd-requires : tie.Need-word-imadd-requires
-word-imadd-requires c κs = search needs
-
-enum-known-i-6 : tie.Need-enum-known-i-6
-enum-known-i-6 c = search needs
-
-word-bitfield-requires : tie.Need-word-bitfield-requires
-word-bitfield-requires c κs = search needs
-
-enum-known-i-7 : tie.Need-enum-known-i-7
-enum-known-i-7 c = search needs
-
-word-bitfield-requires-2 : tie.Need-word-bitfield-requires-2
-word-bitfield-requires-2 c κs = search needs
-
-enum-known-i-8 : tie.Need-enum-known-i-8
-enum-known-i-8 c = search needs
-
-word-bitfield-requires-3 : tie.Need-word-bitfield-requires-3
-word-bitfield-requires-3 c κs = search needs
-
-enum-known-i-9 : tie.Need-enum-known-i-9
-enum-known-i-9 c = search needs
-
-word-bitfield-requires-4 : tie.Need-word-bitfield-requires-4
-word-bitfield-requires-4 c κs = search needs
-
-enum-known-i-10 : tie.Need-enum-known-i-10
-enum-known-i-10 c = search needs
-
-word-bitfield-requires-5 : tie.Need-word-bitfield-requires-5
-word-bitfield-requires-5 c κs = search needs
-
-enum-known-i-11 : tie.Need-enum-known-i-11
-enum-known-i-11 c = search needs
-
-word-shift-requires : tie.Need-word-shift-requires
-word-shift-requires c κs = search needs
-
-enum-known-i-12 : tie.Need-enum-known-i-12
-enum-known-i-12 c = search needs
-
-word-shift-requires-2 : tie.Need-word-shift-requires-2
-word-shift-requires-2 c κs = search needs
-
-enum-known-i-13 : tie.Need-enum-known-i-13
-enum-known-i-13 c = search needs
-
-word-bitop-requires : tie.Need-word-bitop-requires
-word-bitop-requires c κs = search needs
-
-enum-known-i-14 : tie.Need-enum-known-i-14
-enum-known-i-14 c = search needs
-
-word-scan-requires : tie.Need-word-scan-requires
-word-scan-requires c κs = search needs
-
-enum-known-i-15 : tie.Need-enum-known-i-15
-enum-known-i-15 c = search needs
-
-word-scan-requires-2 : tie.Need-word-scan-requires-2
-word-scan-requires-2 c κs = search needs
-
-enum-known-i-16 : tie.Need-enum-known-i-16
-enum-known-i-16 c = search needs
-
-word-scan-requires-3 : tie.Need-word-scan-requires-3
-word-scan-requires-3 c κs = search needs
-
-enum-known-i-17 : tie.Need-enum-known-i-17
-enum-known-i-17 c = search needs
-
-word-jump-requires : tie.Need-word-jump-requires
-word-jump-requires c κs = search needs
-
-enum-known-i-18 : tie.Need-enum-known-i-18
-enum-known-i-18 c = search needs
-
-word-jump-requires-2 : tie.Need-word-jump-requires-2
-word-jump-requires-2 c κs = search needs
-
-enum-known-i-19 : tie.Need-enum-known-i-19
-enum-known-i-19 c = search needs
-
-word-pop-exec-requires : tie.Need-word-pop-exec-requires
-word-pop-exec-requires c κs = search needs
-
-enum-known-i-20 : tie.Need-enum-known-i-20
-enum-known-i-20 c = search needs
-
-word-compare-requires : tie.Need-word-compare-requires
-word-compare-requires c κs = search needs
-
-enum-known-i-21 : tie.Need-enum-known-i-21
-enum-known-i-21 c = search needs
-
-word-compare-requires-2 : tie.Need-word-compare-requires-2
-word-compare-requires-2 c κs = search needs
-
-enum-known-i-22 : tie.Need-enum-known-i-22
-enum-known-i-22 c = search needs
-
-word-compare-requires-3 : tie.Need-word-compare-requires-3
-word-compare-requires-3 c κs = search needs
-
 returns : tie.Need-returns
 returns c = rw (c .before .before .i .given .1) (c .word-mov16 .ensures)
 
@@ -223,69 +91,14 @@ pub word-for-spec : {M : Type 1} → statement M
 word-for-spec =
     tie.close
     (tie.spec
-    enum-known-i
-    word-mov16-requires
-    enum-known-i-2
-    word-mov32-requires
-    enum-known-i-3
-    word-get-sr-requires
-    enum-known-i-4
-    word-iadd-requires
-    enum-known-i-5
-    word-imadd-requires
-    enum-known-i-6
-    word-bitfield-requires
-    enum-known-i-7
-    word-bitfield-requires-2
-    enum-known-i-8
-    word-bitfield-requires-3
-    enum-known-i-9
-    word-bitfield-requires-4
-    enum-known-i-10
-    word-bitfield-requires-5
-    enum-known-i-11
-    word-shift-requires
-    enum-known-i-12
-    word-shift-requires-2
-    enum-known-i-13
-    word-bitop-requires
-    enum-known-i-14
-    word-scan-requires
-    enum-known-i-15
-    word-scan-requires-2
-    enum-known-i-16
-    word-scan-requires-3
-    enum-known-i-17
-    word-jump-requires
-    enum-known-i-18
-    word-jump-requires-2
-    enum-known-i-19
-    word-pop-exec-requires
-    enum-known-i-20
-    word-compare-requires
-    enum-known-i-21
-    word-compare-requires-2
-    enum-known-i-22
-    word-compare-requires-3
-    returns
-    returns-2
-    returns-3
-    returns-4
-    returns-5
-    returns-6
-    returns-7
-    returns-8
-    returns-9
-    returns-10
-    returns-11
-    returns-12
-    returns-13
-    returns-14
-    returns-15
-    returns-16
-    returns-17
-    returns-18
-    returns-19
-    returns-20
-    returns-21
-    returns-22)
+    (λ c. search needs) (λ c κs. search needs) (λ c. search needs) (λ c κs. search needs) (λ c. search needs)
+    (λ c κs. search needs) (λ c. search needs) (λ c κs. search needs) (λ c. search needs) (λ c κs. search needs)
+    (λ c. search needs) (λ c κs. search needs) (λ c. search needs) (λ c κs. search needs) (λ c. search needs)
+    (λ c κs. search needs) (λ c. search needs) (λ c κs. search needs) (λ c. search needs) (λ c κs. search needs)
+    (λ c. search needs) (λ c κs. search needs) (λ c. search needs) (λ c κs. search needs) (λ c. search needs)
+    (λ c κs. search needs) (λ c. search needs) (λ c κs. search needs) (λ c. search needs) (λ c κs. search needs)
+    (λ c. search needs) (λ c κs. search needs) (λ c. search needs) (λ c κs. search needs) (λ c. search needs)
+    (λ c κs. search needs) (λ c. search needs) (λ c κs. search needs) (λ c. search needs) (λ c κs. search needs)
+    (λ c. search needs) (λ c κs. search needs) (λ c. search needs) (λ c κs. search needs) returns returns-2 returns-3 returns-4
+    returns-5 returns-6 returns-7 returns-8 returns-9 returns-10 returns-11 returns-12 returns-13 returns-14 returns-15 returns-16
+    returns-17 returns-18 returns-19 returns-20 returns-21 returns-22)

@@ -8,18 +8,6 @@ use borrow.Author.Needs.{needs}
 use Rattle.writing.proofs.word_imadd.Statement.{statement}
 use Rattle.writing.proofs.word_imadd.Tie as tie
 
-of-dst-requires : tie.Need-of-dst-requires
-of-dst-requires c κs = search needs
-
-of-src-requires : tie.Need-of-src-requires
-of-src-requires c κs = search needs
-
-of-src-requires-2 : tie.Need-of-src-requires-2
-of-src-requires-2 c κs = search needs
-
-of-src-requires-3 : tie.Need-of-src-requires-3
-of-src-requires-3 c κs = search needs
-
 returns : tie.Need-returns
 unfolding rows wordFor fieldsFor partsOf
 returns c =
@@ -37,4 +25,5 @@ returns c =
 pub word-imadd-spec : {M : Type 1} → statement M
 word-imadd-spec =
     tie.close
-    (tie.spec of-dst-requires of-src-requires of-src-requires-2 of-src-requires-3 returns)
+    (tie.spec
+    (λ c κs. search needs) (λ c κs. search needs) (λ c κs. search needs) (λ c κs. search needs) returns)

@@ -5,12 +5,9 @@ use borrow.Author.Needs.{needs}
 use Rattle.writing.proofs.word_pop_exec.Statement.{statement}
 use Rattle.writing.proofs.word_pop_exec.Tie as tie
 
-cache-bit-requires : tie.Need-cache-bit-requires
-cache-bit-requires c κs = search needs
-
 returns : tie.Need-returns
 unfolding rows wordFor fieldsFor partsOf
 returns c = rw (c .cache-bit .ensures .0)
 
 pub word-pop-exec-spec : {M : Type 1} → statement M
-word-pop-exec-spec = tie.close (tie.spec cache-bit-requires returns)
+word-pop-exec-spec = tie.close (tie.spec (λ c κs. search needs) returns)

@@ -8,12 +8,6 @@ use borrow.Author.Needs.{needs}
 use Rattle.writing.proofs.word_scan.Statement.{statement}
 use Rattle.writing.proofs.word_scan.Tie as tie
 
-of-dst-requires : tie.Need-of-dst-requires
-of-dst-requires c κs = search needs
-
-of-src-requires : tie.Need-of-src-requires
-of-src-requires c κs = search needs
-
 returns : tie.Need-returns
 unfolding rows
 returns c =
@@ -26,4 +20,4 @@ returns c =
     (ofUnary (args .x .operands) [])))
 
 pub word-scan-spec : {M : Type 1} → statement M
-word-scan-spec = tie.close (tie.spec of-dst-requires of-src-requires returns)
+word-scan-spec = tie.close (tie.spec (λ c κs. search needs) (λ c κs. search needs) returns)

@@ -5,11 +5,8 @@ use mir.Facts.{toZ-pos}
 use Rattle.answers.proofs.returned.count.Statement.{statement}
 use Rattle.answers.proofs.returned.count.Tie as tie
 
-cast-result : tie.Need-cast-result
-cast-result c = search needs
-
 returns : tie.Need-returns
 returns c = toZ-pos w32 (omega arith)
 
 pub count-spec : {M : Type 1} → statement M
-count-spec = tie.close (tie.spec cast-result returns)
+count-spec = tie.close (tie.spec (λ c. search needs) returns)

@@ -5,19 +5,10 @@ use Rattle.answers.proofs.Numbers.{handed-on}
 use Rattle.answers.proofs.returned.encoded.Statement.{statement}
 use Rattle.answers.proofs.returned.encoded.Tie as tie
 
-enum-known-e : tie.Need-enum-known-e
-enum-known-e c = search needs
-
 count-requires : tie.Need-count-requires
 count-requires c κs =
     let h = rw (c .before .e .given .1) at (c .before .before .before .pre) in
     omega arith
-
-enum-known-e-2 : tie.Need-enum-known-e-2
-enum-known-e-2 c = search needs
-
-refused-requires : tie.Need-refused-requires
-refused-requires c κs = search needs
 
 returns : tie.Need-returns
 returns c = rw (c .before .before .e .given .1) (handed-on (c .count .result) (c .count .ok) ∙ c .count .ensures)
@@ -28,4 +19,5 @@ returns-2 c = rw (c .before .before .e2 .given .1) (handed-on (c .refused .resul
 pub encoded-spec : {M : Type 1} → statement M
 encoded-spec =
     tie.close
-    (tie.spec enum-known-e count-requires enum-known-e-2 refused-requires returns returns-2)
+    (tie.spec
+    (λ c. search needs) count-requires (λ c. search needs) (λ c κs. search needs) returns returns-2)

@@ -6,12 +6,6 @@ use Rattle.answers.proofs.Numbers.{minus-fits, minus-is}
 use Rattle.answers.proofs.returned.refused.Statement.{statement}
 use Rattle.answers.proofs.returned.refused.Tie as tie
 
-number-requires : tie.Need-number-requires
-number-requires c κs = search needs
-
-cast-result : tie.Need-cast-result
-cast-result c = search needs
-
 sub-result : tie.Need-sub-result
 sub-result c = minus-fits (c .number .result) (c .number .ok)
 
@@ -20,4 +14,4 @@ returns c =
     minus-is (c .number .result) (c .number .ok) ∙ ap (λ (n : ℕ). negℤ (pos n)) (c .number .ensures)
 
 pub refused-spec : {M : Type 1} → statement M
-refused-spec = tie.close (tie.spec number-requires cast-result sub-result returns)
+refused-spec = tie.close (tie.spec (λ c κs. search needs) (λ c. search needs) sub-result returns)

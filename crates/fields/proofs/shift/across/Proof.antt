@@ -6,15 +6,6 @@ use Rattle.fields.proofs.Shifts.{across-up, across-down, shr-within}
 use Rattle.fields.proofs.shift.across.Statement.{statement}
 use Rattle.fields.proofs.shift.across.Tie as tie
 
-up-requires : tie.Need-up-requires
-up-requires c κs = search needs
-
-sub-down : tie.Need-sub-down
-sub-down c = search needs
-
-down-requires : tie.Need-down-requires
-down-requires c κs = search needs
-
 returns : tie.Need-returns
 returns c =
     let a = c .before .before .args in
@@ -28,4 +19,4 @@ returns-2 c =
     ∙ shr-within (a .x) (a .k - a .j) 64 (c .before .before .fits .x .fits))
 
 pub across-spec : {M : Type 1} → statement M
-across-spec = tie.close (tie.spec up-requires sub-down down-requires returns returns-2)
+across-spec = tie.close (tie.spec (λ c κs. search needs) (λ c. search needs) (λ c κs. search needs) returns returns-2)

@@ -9,9 +9,6 @@ returns : tie.Need-returns
 unfolding modulo
 returns c = rw (eq-eqb (c .before .args .m) 0 (c .if1 .taken))
 
-shl-result : tie.Need-shl-result
-shl-result c = search needs
-
 sub-result : tie.Need-sub-result
 sub-result c = ones-positive (c .before .before .args .m) 64 (c .if2 .taken)
 
@@ -28,4 +25,4 @@ returns-3 c =
     rw (ne-eqb m 0 (c .before .if1 .left)) (ones-past m 64 (c .if2 .left))
 
 pub mask-spec : {M : Type 1} → statement M
-mask-spec = tie.close (tie.spec returns shl-result sub-result returns-2 returns-3)
+mask-spec = tie.close (tie.spec returns (λ c. search needs) sub-result returns-2 returns-3)

@@ -30,27 +30,6 @@ loop-holds : tie.Need-loop-holds Inv-loop μ-loop
 unfolding rows forms
 loop-holds c = (omega arith, refl, record { masks = refl; values = refl; lent = c .ones-of .ensures })
 
-mul-agree : tie.Need-mul-agree Inv-loop μ-loop
-mul-agree c = omega arith
-
-array-read-agree : tie.Need-array-read-agree Inv-loop μ-loop
-array-read-agree c = omega arith
-
-mul-agree-2 : tie.Need-mul-agree-2 Inv-loop μ-loop
-mul-agree-2 c = omega arith
-
-array-read-agree-2 : tie.Need-array-read-agree-2 Inv-loop μ-loop
-array-read-agree-2 c = omega arith
-
-agree-requires : tie.Need-agree-requires Inv-loop μ-loop
-agree-requires c κs = search needs
-
-bytes-of-requires : tie.Need-bytes-of-requires Inv-loop μ-loop
-bytes-of-requires c κs = omega arith
-
-place-of-requires : tie.Need-place-of-requires Inv-loop μ-loop
-place-of-requires c κs = omega arith
-
 returns : tie.Need-returns Inv-loop μ-loop
 returns c =
     let l = c .before .before .before .before .before .before in
@@ -62,12 +41,6 @@ returns c =
           (omega (arith, b .0)))
       ∙ l .loop .inv .1,
       (c .place-of .ensures .1, b .1))
-
-add-i : tie.Need-add-i Inv-loop μ-loop
-add-i c = omega arith
-
-loop-less : tie.Need-loop-less Inv-loop μ-loop
-loop-less c = omega arith
 
 loop-again : tie.Need-loop-again Inv-loop μ-loop
 loop-again c =
@@ -97,20 +70,6 @@ pub find-first-spec : {M : Type 1} → statement M
 find-first-spec =
     tie.close
     (tie.spec
-    Inv-loop
-    μ-loop
-    ones-of-requires
-    loop-holds
-    mul-agree
-    array-read-agree
-    mul-agree-2
-    array-read-agree-2
-    agree-requires
-    bytes-of-requires
-    place-of-requires
-    returns
-    add-i
-    loop-less
-    loop-again
-    returns-2
-    returns-3)
+    Inv-loop μ-loop ones-of-requires loop-holds (λ c. omega arith) (λ c. omega arith) (λ c. omega arith) (λ c. omega arith)
+    (λ c κs. search needs) (λ c κs. omega arith) (λ c κs. omega arith) returns (λ c. omega arith) (λ c. omega arith) loop-again
+    returns-2 returns-3)

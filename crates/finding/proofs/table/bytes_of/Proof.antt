@@ -8,15 +8,9 @@ use borrow.Author.Needs.{needs}
 use Rattle.finding.proofs.table.bytes_of.Statement.{statement}
 use Rattle.finding.proofs.table.bytes_of.Tie as tie
 
-mul-result : tie.Need-mul-result
-mul-result c = search needs
-
-array-read-result : tie.Need-array-read-result
-array-read-result c = search needs
-
 returns : tie.Need-returns
 unfolding rows forms
 returns c = (List·getD-map (λ (f : Form). f .bytes) forms (c .args .i) noForm, below (λ (f : Form). f .bytes) 9 refl (c .args .i) (c .pre))
 
 pub bytes-of-spec : {M : Type 1} → statement M
-bytes-of-spec = tie.close (tie.spec mul-result array-read-result returns)
+bytes-of-spec = tie.close (tie.spec (λ c. search needs) (λ c. search needs) returns)

@@ -7,14 +7,8 @@ use borrow.Author.Needs.{needs}
 use Rattle.finding.proofs.table.ones_of.Statement.{statement}
 use Rattle.finding.proofs.table.ones_of.Tie as tie
 
-mul-result : tie.Need-mul-result
-mul-result c = search needs
-
-array-read-result : tie.Need-array-read-result
-array-read-result c = search needs
-
 returns : tie.Need-returns
 returns c = agree 9 (λ k. getD (upto 9 ones) k 0) ones refl (c .args .n) (c .pre)
 
 pub ones-of-spec : {M : Type 1} → statement M
-ones-of-spec = tie.close (tie.spec mul-result array-read-result returns)
+ones-of-spec = tie.close (tie.spec (λ c. search needs) (λ c. search needs) returns)

@@ -8,15 +8,9 @@ use borrow.Author.Needs.{needs}
 use Rattle.finding.proofs.table.place_of.Statement.{statement}
 use Rattle.finding.proofs.table.place_of.Tie as tie
 
-mul-result : tie.Need-mul-result
-mul-result c = search needs
-
-array-read-result : tie.Need-array-read-result
-array-read-result c = search needs
-
 returns : tie.Need-returns
 unfolding rows forms
 returns c = (List·getD-map (λ (f : Form). f .place) forms (c .args .i) noForm, below (λ (f : Form). f .place) 22 refl (c .args .i) (c .pre))
 
 pub place-of-spec : {M : Type 1} → statement M
-place-of-spec = tie.close (tie.spec mul-result array-read-result returns)
+place-of-spec = tie.close (tie.spec (λ c. search needs) (λ c. search needs) returns)

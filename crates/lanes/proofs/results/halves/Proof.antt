@@ -12,22 +12,10 @@ use Rattle.lanes.proofs.Stores.{put-halves}
 use Rattle.lanes.proofs.results.halves.Statement.{statement}
 use Rattle.lanes.proofs.results.halves.Tie as tie
 
-column-requires : tie.Need-column-requires
-column-requires c κs = search needs
-
 merged-requires : tie.Need-merged-requires
 merged-requires c κs =
     let s = c .before .before .before .before .before in
     (ap length (c .before .before .column .ensures) ∙ length-tab 32 (columnOf (now (s .args .values)) 0), s .pre)
-
-index-requires : tie.Need-index-requires
-index-requires c κs = search needs
-
-put-requires : tie.Need-put-requires
-put-requires c κs = search needs
-
-same-length : tie.Need-same-length
-same-length c = search needs
 
 returns : tie.Need-returns
 returns c =
@@ -45,9 +33,4 @@ pub halves-spec : {M : Type 1} → statement M
 halves-spec =
     tie.close
     (tie.spec
-    column-requires
-    merged-requires
-    index-requires
-    put-requires
-    same-length
-    returns)
+    (λ c κs. search needs) merged-requires (λ c κs. search needs) (λ c κs. search needs) (λ c. search needs) returns)

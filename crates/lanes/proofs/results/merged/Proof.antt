@@ -21,52 +21,13 @@ Inv-loop registers h row₀ base other place t₀ row t =
 abbrev μ-loop : tie.MeasureT-loop
 μ-loop registers h row₀ base other place t₀ row t = 32 - t
 
-index-requires : tie.Need-index-requires Inv-loop μ-loop
-index-requires c κs = search needs
-
-mul-base : tie.Need-mul-base Inv-loop μ-loop
-mul-base c = omega arith
-
-other-requires : tie.Need-other-requires Inv-loop μ-loop
-other-requires c κs = search needs
-
-place-requires : tie.Need-place-requires Inv-loop μ-loop
-place-requires c κs = search needs
-
 loop-holds : tie.Need-loop-holds Inv-loop μ-loop
 loop-holds c = (omega arith, filled-none _ _, c .before .before .before .before .pre .0)
-
-mul-x : tie.Need-mul-x Inv-loop μ-loop
-mul-x c = omega arith
-
-element-copy-out-x : tie.Need-element-copy-out-x Inv-loop μ-loop
-element-copy-out-x c = omega arith
-
-add-merge : tie.Need-add-merge Inv-loop μ-loop
-add-merge c = omega arith
-
-mul-merge : tie.Need-mul-merge Inv-loop μ-loop
-mul-merge c = omega arith
-
-shared-slice-read-merge : tie.Need-shared-slice-read-merge Inv-loop μ-loop
-shared-slice-read-merge c = omega arith
 
 merge-requires : tie.Need-merge-requires Inv-loop μ-loop
 merge-requires c κs =
     rw (c .before .before .before .before .place .ensures)
     (place-lt (eqb (c .before .before .before .before .before .before .before .before .args .h % 2) 0))
-
-mul-row : tie.Need-mul-row Inv-loop μ-loop
-mul-row c = omega arith
-
-element-write-row : tie.Need-element-write-row Inv-loop μ-loop
-element-write-row c = omega arith
-
-add-t : tie.Need-add-t Inv-loop μ-loop
-add-t c = omega arith
-
-loop-less : tie.Need-loop-less Inv-loop μ-loop
-loop-less c = omega arith
 
 loop-again : tie.Need-loop-again Inv-loop μ-loop
 loop-again c =
@@ -100,22 +61,6 @@ pub merged-spec : {M : Type 1} → statement M
 merged-spec =
     tie.close
     (tie.spec
-    Inv-loop
-    μ-loop
-    index-requires
-    mul-base
-    other-requires
-    place-requires
-    loop-holds
-    mul-x
-    element-copy-out-x
-    add-merge
-    mul-merge
-    shared-slice-read-merge
-    merge-requires
-    mul-row
-    element-write-row
-    add-t
-    loop-less
-    loop-again
-    returns)
+    Inv-loop μ-loop (λ c κs. search needs) (λ c. omega arith) (λ c κs. search needs) (λ c κs. search needs) loop-holds
+    (λ c. omega arith) (λ c. omega arith) (λ c. omega arith) (λ c. omega arith) (λ c. omega arith) merge-requires
+    (λ c. omega arith) (λ c. omega arith) (λ c. omega arith) (λ c. omega arith) loop-again returns)

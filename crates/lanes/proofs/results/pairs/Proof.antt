@@ -9,27 +9,6 @@ use Rattle.lanes.proofs.Stores.{put-pairs}
 use Rattle.lanes.proofs.results.pairs.Statement.{statement}
 use Rattle.lanes.proofs.results.pairs.Tie as tie
 
-index-requires : tie.Need-index-requires
-index-requires c κs = search needs
-
-column-requires : tie.Need-column-requires
-column-requires c κs = search needs
-
-put-requires : tie.Need-put-requires
-put-requires c κs = search needs
-
-column-requires-2 : tie.Need-column-requires-2
-column-requires-2 c κs = search needs
-
-add-put : tie.Need-add-put
-add-put c = search needs
-
-put-requires-2 : tie.Need-put-requires-2
-put-requires-2 c κs = search needs
-
-same-length : tie.Need-same-length
-same-length c = search needs
-
 returns : tie.Need-returns
 returns c =
     let first = c .before .before .before .before .before .before .before .before .before in
@@ -48,11 +27,5 @@ pub pairs-spec : {M : Type 1} → statement M
 pairs-spec =
     tie.close
     (tie.spec
-    index-requires
-    column-requires
-    put-requires
-    column-requires-2
-    add-put
-    put-requires-2
-    same-length
-    returns)
+    (λ c κs. search needs) (λ c κs. search needs) (λ c κs. search needs) (λ c κs. search needs) (λ c. search needs)
+    (λ c κs. search needs) (λ c. search needs) returns)

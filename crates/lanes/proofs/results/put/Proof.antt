@@ -17,45 +17,9 @@ Inv-loop registers₀ r mask row base t₀ registers t =
 abbrev μ-loop : tie.MeasureT-loop
 μ-loop registers₀ r mask row base t₀ registers t = 32 - t
 
-mul-base : tie.Need-mul-base Inv-loop μ-loop
-mul-base c = omega arith
-
 loop-holds : tie.Need-loop-holds Inv-loop μ-loop
 unfolding each
 loop-holds c = (omega arith, refl, refl)
-
-add-i : tie.Need-add-i Inv-loop μ-loop
-add-i c = omega arith
-
-mul-old : tie.Need-mul-old Inv-loop μ-loop
-mul-old c = omega arith
-
-slice-read-old : tie.Need-slice-read-old Inv-loop μ-loop
-slice-read-old c = omega arith
-
-active-requires : tie.Need-active-requires Inv-loop μ-loop
-active-requires c κs = omega arith
-
-mul-choose : tie.Need-mul-choose Inv-loop μ-loop
-mul-choose c = omega arith
-
-element-copy-out-choose : tie.Need-element-copy-out-choose Inv-loop μ-loop
-element-copy-out-choose c = omega arith
-
-choose-requires : tie.Need-choose-requires Inv-loop μ-loop
-choose-requires c κs = search needs
-
-mul-registers : tie.Need-mul-registers Inv-loop μ-loop
-mul-registers c = omega arith
-
-slice-write-registers : tie.Need-slice-write-registers Inv-loop μ-loop
-slice-write-registers c = omega arith
-
-add-t : tie.Need-add-t Inv-loop μ-loop
-add-t c = omega arith
-
-loop-less : tie.Need-loop-less Inv-loop μ-loop
-loop-less c = omega arith
 
 loop-again : tie.Need-loop-again Inv-loop μ-loop
 unfolding each wordLane
@@ -75,21 +39,6 @@ pub put-spec : {M : Type 1} → statement M
 put-spec =
     tie.close
     (tie.spec
-    Inv-loop
-    μ-loop
-    mul-base
-    loop-holds
-    add-i
-    mul-old
-    slice-read-old
-    active-requires
-    mul-choose
-    element-copy-out-choose
-    choose-requires
-    mul-registers
-    slice-write-registers
-    add-t
-    loop-less
-    loop-again
-    same-length
-    returns)
+    Inv-loop μ-loop (λ c. omega arith) loop-holds (λ c. omega arith) (λ c. omega arith) (λ c. omega arith) (λ c κs. omega arith)
+    (λ c. omega arith) (λ c. omega arith) (λ c κs. search needs) (λ c. omega arith) (λ c. omega arith) (λ c. omega arith)
+    (λ c. omega arith) loop-again same-length returns)

@@ -8,18 +8,6 @@ use Rattle.lanes.proofs.Stores.{put-words}
 use Rattle.lanes.proofs.results.words.Statement.{statement}
 use Rattle.lanes.proofs.results.words.Tie as tie
 
-column-requires : tie.Need-column-requires
-column-requires c κs = search needs
-
-index-requires : tie.Need-index-requires
-index-requires c κs = search needs
-
-put-requires : tie.Need-put-requires
-put-requires c κs = search needs
-
-same-length : tie.Need-same-length
-same-length c = search needs
-
 returns : tie.Need-returns
 returns c =
     let a = c .before .before .before .before .before .before .before .before .before .args in
@@ -30,4 +18,4 @@ returns c =
     ∙ put-words (now (a .values)) (a .mask) (a .r) (now (a .registers))
 
 pub words-spec : {M : Type 1} → statement M
-words-spec = tie.close (tie.spec column-requires index-requires put-requires same-length returns)
+words-spec = tie.close (tie.spec (λ c κs. search needs) (λ c κs. search needs) (λ c κs. search needs) (λ c. search needs) returns)

@@ -22,27 +22,12 @@ loop-holds : tie.Need-loop-holds Inv-loop μ-loop
 unfolding pack
 loop-holds c = (omega arith, refl)
 
-mul-bit : tie.Need-mul-bit Inv-loop μ-loop
-mul-bit c = omega arith
-
-element-copy-out-bit : tie.Need-element-copy-out-bit Inv-loop μ-loop
-element-copy-out-bit c = omega arith
-
-bit-requires : tie.Need-bit-requires Inv-loop μ-loop
-bit-requires c κs = omega arith
-
 add-mask : tie.Need-add-mask Inv-loop μ-loop
 add-mask c =
     let l = c .before .before .before .loop in
     let values = now (c .before .before .before .before .args .values) in
     let fit = bit-fits (pack (l .t) (zeroAt values)) (l .t) (zeroAt values (l .t)) (c .before .before .loop-test .taken) in
     record { fits = rw (c .bit .ensures, l .inv .1) (fit (pack-lt (l .t) (zeroAt values))) }
-
-add-t : tie.Need-add-t Inv-loop μ-loop
-add-t c = omega arith
-
-loop-less : tie.Need-loop-less Inv-loop μ-loop
-loop-less c = omega arith
 
 loop-again : tie.Need-loop-again Inv-loop μ-loop
 unfolding pack
@@ -59,14 +44,5 @@ pub zeros-spec : {M : Type 1} → statement M
 zeros-spec =
     tie.close
     (tie.spec
-    Inv-loop
-    μ-loop
-    loop-holds
-    mul-bit
-    element-copy-out-bit
-    bit-requires
-    add-mask
-    add-t
-    loop-less
-    loop-again
-    returns)
+    Inv-loop μ-loop loop-holds (λ c. omega arith) (λ c. omega arith) (λ c κs. omega arith) add-mask (λ c. omega arith)
+    (λ c. omega arith) loop-again returns)

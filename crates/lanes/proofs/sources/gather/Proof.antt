@@ -12,25 +12,16 @@ use Rattle.lanes.proofs.Bounds.{gathered}
 use Rattle.lanes.proofs.sources.gather.Statement.{statement}
 use Rattle.lanes.proofs.sources.gather.Tie as tie
 
-index-1-input : tie.Need-index-1-input
-index-1-input c = search needs
-
 input-requires : tie.Need-input-requires
 input-requires c κs =
     let p = c .before .before .before .before .pre in
     (ap (λ (l : List (List ℕ)). getD l 0 []) (p .0), p .1)
-
-index-1-input-2 : tie.Need-index-1-input-2
-index-1-input-2 c = search needs
 
 input-requires-2 : tie.Need-input-requires-2
 input-requires-2 c κs =
     let p = c .before .before .before .before .before .before .pre in
     let x = c .before .input .last .1 .1 .1 .1 .0 in
     (ap (λ (l : List (List ℕ)). getD (set l 0 x) 1 []) (p .0), p .2)
-
-index-1-input-3 : tie.Need-index-1-input-3
-index-1-input-3 c = search needs
 
 input-requires-3 : tie.Need-input-requires-3
 input-requires-3 c κs =
@@ -55,10 +46,4 @@ pub gather-spec : {M : Type 1} → statement M
 gather-spec =
     tie.close
     (tie.spec
-    index-1-input
-    input-requires
-    index-1-input-2
-    input-requires-2
-    index-1-input-3
-    input-requires-3
-    returns)
+    (λ c. search needs) input-requires (λ c. search needs) input-requires-2 (λ c. search needs) input-requires-3 returns)

@@ -20,43 +20,13 @@ Inv-loop file h row base place out₀ t₀ out t =
 abbrev μ-loop : tie.MeasureT-loop
 μ-loop file h row base place out₀ t₀ out t = 32 - t
 
-index-requires : tie.Need-index-requires Inv-loop μ-loop
-index-requires c κs = search needs
-
-mul-base : tie.Need-mul-base Inv-loop μ-loop
-mul-base c = omega arith
-
-place-requires : tie.Need-place-requires Inv-loop μ-loop
-place-requires c κs = search needs
-
 loop-holds : tie.Need-loop-holds Inv-loop μ-loop
 loop-holds c = (omega arith, filled-none _ _)
-
-add-part : tie.Need-add-part Inv-loop μ-loop
-add-part c = omega arith
-
-mul-part : tie.Need-mul-part Inv-loop μ-loop
-mul-part c = omega arith
-
-shared-slice-read-part : tie.Need-shared-slice-read-part Inv-loop μ-loop
-shared-slice-read-part c = omega arith
 
 part-requires : tie.Need-part-requires Inv-loop μ-loop
 part-requires c κs =
     rw (c .before .before .before .place .ensures)
     (place-lt (eqb (c .before .before .before .before .before .before .args .h % 2) 0))
-
-mul-out : tie.Need-mul-out Inv-loop μ-loop
-mul-out c = omega arith
-
-array-write-out : tie.Need-array-write-out Inv-loop μ-loop
-array-write-out c = omega arith
-
-add-t : tie.Need-add-t Inv-loop μ-loop
-add-t c = omega arith
-
-loop-less : tie.Need-loop-less Inv-loop μ-loop
-loop-less c = omega arith
 
 loop-again : tie.Need-loop-again Inv-loop μ-loop
 loop-again c =
@@ -84,19 +54,6 @@ pub halves-spec : {M : Type 1} → statement M
 halves-spec =
     tie.close
     (tie.spec
-    Inv-loop
-    μ-loop
-    index-requires
-    mul-base
-    place-requires
-    loop-holds
-    add-part
-    mul-part
-    shared-slice-read-part
-    part-requires
-    mul-out
-    array-write-out
-    add-t
-    loop-less
-    loop-again
-    returns)
+    Inv-loop μ-loop (λ c κs. search needs) (λ c. omega arith) (λ c κs. search needs) loop-holds (λ c. omega arith)
+    (λ c. omega arith) (λ c. omega arith) part-requires (λ c. omega arith) (λ c. omega arith) (λ c. omega arith)
+    (λ c. omega arith) loop-again returns)

@@ -11,22 +11,10 @@ use Rattle.lanes.proofs.Bounds.{row-made}
 use Rattle.lanes.proofs.sources.input.Statement.{statement}
 use Rattle.lanes.proofs.sources.input.Tie as tie
 
-enum-told : tie.Need-enum-told
-enum-told c = search needs
-
-enum-known-x : tie.Need-enum-known-x
-enum-known-x c = search needs
-
 source-requires : tie.Need-source-requires
 source-requires c κs =
     let p = c .before .before .before .before .before .before .before .pre in
     (ap length (p .0), rw (c .before .before .x .given .1) at (p .1 .0))
-
-enum-known-x-2 : tie.Need-enum-known-x-2
-enum-known-x-2 c = search needs
-
-index-requires : tie.Need-index-requires
-index-requires c κs = search needs
 
 words-requires : tie.Need-words-requires
 words-requires c κs =
@@ -57,12 +45,5 @@ pub input-spec : {M : Type 1} → statement M
 input-spec =
     tie.close
     (tie.spec
-    enum-told
-    enum-known-x
-    source-requires
-    enum-known-x-2
-    index-requires
-    words-requires
-    returns
-    returns-2
-    returns-3)
+    (λ c. search needs) (λ c. search needs) source-requires (λ c. search needs) (λ c κs. search needs) words-requires returns
+    returns-2 returns-3)

@@ -19,47 +19,8 @@ Inv-loop file r row base next out₀ t₀ out t =
 abbrev μ-loop : tie.MeasureT-loop
 μ-loop file r row base next out₀ t₀ out t = 32 - t
 
-mul-base : tie.Need-mul-base Inv-loop μ-loop
-mul-base c = omega arith
-
-add-next : tie.Need-add-next Inv-loop μ-loop
-add-next c = omega arith
-
 loop-holds : tie.Need-loop-holds Inv-loop μ-loop
 loop-holds c = (omega arith, filled-none _ _)
-
-add-pair : tie.Need-add-pair Inv-loop μ-loop
-add-pair c = omega arith
-
-mul-pair : tie.Need-mul-pair Inv-loop μ-loop
-mul-pair c = omega arith
-
-shared-slice-read-pair : tie.Need-shared-slice-read-pair Inv-loop μ-loop
-shared-slice-read-pair c = omega arith
-
-add-pair-2 : tie.Need-add-pair-2 Inv-loop μ-loop
-add-pair-2 c = omega arith
-
-mul-pair-2 : tie.Need-mul-pair-2 Inv-loop μ-loop
-mul-pair-2 c = omega arith
-
-shared-slice-read-pair-2 : tie.Need-shared-slice-read-pair-2 Inv-loop μ-loop
-shared-slice-read-pair-2 c = omega arith
-
-pair-requires : tie.Need-pair-requires Inv-loop μ-loop
-pair-requires c κs = search needs
-
-mul-out : tie.Need-mul-out Inv-loop μ-loop
-mul-out c = omega arith
-
-array-write-out : tie.Need-array-write-out Inv-loop μ-loop
-array-write-out c = omega arith
-
-add-t : tie.Need-add-t Inv-loop μ-loop
-add-t c = omega arith
-
-loop-less : tie.Need-loop-less Inv-loop μ-loop
-loop-less c = omega arith
 
 loop-again : tie.Need-loop-again Inv-loop μ-loop
 loop-again c =
@@ -83,21 +44,6 @@ pub pairs-spec : {M : Type 1} → statement M
 pairs-spec =
     tie.close
     (tie.spec
-    Inv-loop
-    μ-loop
-    mul-base
-    add-next
-    loop-holds
-    add-pair
-    mul-pair
-    shared-slice-read-pair
-    add-pair-2
-    mul-pair-2
-    shared-slice-read-pair-2
-    pair-requires
-    mul-out
-    array-write-out
-    add-t
-    loop-less
-    loop-again
-    returns)
+    Inv-loop μ-loop (λ c. omega arith) (λ c. omega arith) loop-holds (λ c. omega arith) (λ c. omega arith) (λ c. omega arith)
+    (λ c. omega arith) (λ c. omega arith) (λ c. omega arith) (λ c κs. search needs) (λ c. omega arith) (λ c. omega arith)
+    (λ c. omega arith) (λ c. omega arith) loop-again returns)

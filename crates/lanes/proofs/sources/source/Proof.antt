@@ -12,76 +12,19 @@ use Rattle.lanes.proofs.Bounds.{half-below, pair-below, source-made}
 use Rattle.lanes.proofs.sources.source.Statement.{statement}
 use Rattle.lanes.proofs.sources.source.Tie as tie
 
-enum-known-s : tie.Need-enum-known-s
-enum-known-s c = search needs
-
 halves-requires : tie.Need-halves-requires
 halves-requires c κs =
     rw (c .before .before .s .given .1) at (c .before .before .before .before .before .before .pre .1)
-
-enum-known-s-2 : tie.Need-enum-known-s-2
-enum-known-s-2 c = search needs
-
-index-requires : tie.Need-index-requires
-index-requires c κs = search needs
 
 words-requires : tie.Need-words-requires
 words-requires c κs =
     rw (c .before .index .ensures)
     (rw (c .before .before .before .s2 .given .1) at (c .before .before .before .before .before .before .before .pre .1))
 
-enum-known-s-3 : tie.Need-enum-known-s-3
-enum-known-s-3 c = search needs
-
-index-requires-2 : tie.Need-index-requires-2
-index-requires-2 c κs = search needs
-
 pairs-requires : tie.Need-pairs-requires
 pairs-requires c κs =
     rw (c .before .index2 .ensures)
     (rw (c .before .before .before .s3 .given .1) at (c .before .before .before .before .before .before .before .pre .1))
-
-enum-known-s-4 : tie.Need-enum-known-s-4
-enum-known-s-4 c = search needs
-
-uniform-half-requires : tie.Need-uniform-half-requires
-uniform-half-requires c κs = search needs
-
-fill-requires : tie.Need-fill-requires
-fill-requires c κs = search needs
-
-enum-known-s-5 : tie.Need-enum-known-s-5
-enum-known-s-5 c = search needs
-
-index-requires-3 : tie.Need-index-requires-3
-index-requires-3 c κs = search needs
-
-uniform-requires : tie.Need-uniform-requires
-uniform-requires c κs = search needs
-
-wide-requires : tie.Need-wide-requires
-wide-requires c κs = search needs
-
-fill-requires-2 : tie.Need-fill-requires-2
-fill-requires-2 c κs = search needs
-
-enum-known-s-6 : tie.Need-enum-known-s-6
-enum-known-s-6 c = search needs
-
-uniform-pair-requires : tie.Need-uniform-pair-requires
-uniform-pair-requires c κs = search needs
-
-fill-requires-3 : tie.Need-fill-requires-3
-fill-requires-3 c κs = search needs
-
-enum-known-s-7 : tie.Need-enum-known-s-7
-enum-known-s-7 c = search needs
-
-cast-fill : tie.Need-cast-fill
-cast-fill c = search needs
-
-fill-requires-4 : tie.Need-fill-requires-4
-fill-requires-4 c κs = search needs
 
 returns : tie.Need-returns
 unfolding sourceValue
@@ -172,32 +115,8 @@ pub source-spec : {M : Type 1} → statement M
 source-spec =
     tie.close
     (tie.spec
-    enum-known-s
-    halves-requires
-    enum-known-s-2
-    index-requires
-    words-requires
-    enum-known-s-3
-    index-requires-2
-    pairs-requires
-    enum-known-s-4
-    uniform-half-requires
-    fill-requires
-    enum-known-s-5
-    index-requires-3
-    uniform-requires
-    wide-requires
-    fill-requires-2
-    enum-known-s-6
-    uniform-pair-requires
-    fill-requires-3
-    enum-known-s-7
-    cast-fill
-    fill-requires-4
-    returns
-    returns-2
-    returns-3
-    returns-4
-    returns-5
-    returns-6
-    returns-7)
+    (λ c. search needs) halves-requires (λ c. search needs) (λ c κs. search needs) words-requires (λ c. search needs)
+    (λ c κs. search needs) pairs-requires (λ c. search needs) (λ c κs. search needs) (λ c κs. search needs) (λ c. search needs)
+    (λ c κs. search needs) (λ c κs. search needs) (λ c κs. search needs) (λ c κs. search needs) (λ c. search needs)
+    (λ c κs. search needs) (λ c κs. search needs) (λ c. search needs) (λ c. search needs) (λ c κs. search needs) returns returns-2
+    returns-3 returns-4 returns-5 returns-6 returns-7)

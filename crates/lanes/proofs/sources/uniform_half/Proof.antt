@@ -9,15 +9,6 @@ use Rattle.lanes.proofs.Halves.{place-lt, half-part}
 use Rattle.lanes.proofs.sources.uniform_half.Statement.{statement}
 use Rattle.lanes.proofs.sources.uniform_half.Tie as tie
 
-cast-i : tie.Need-cast-i
-cast-i c = search needs
-
-uniform-requires : tie.Need-uniform-requires
-uniform-requires c κs = search needs
-
-place-requires : tie.Need-place-requires
-place-requires c κs = search needs
-
 part-requires : tie.Need-part-requires
 part-requires c κs =
     rw (c .place .ensures) (place-lt (eqb (c .before .before .before .args .h % 2) 0))
@@ -31,11 +22,4 @@ returns c =
     (c .before .before .before .shared-slice-known .given (a .h / 2) .fits)
 
 pub uniform-half-spec : {M : Type 1} → statement M
-uniform-half-spec =
-    tie.close
-    (tie.spec
-    cast-i
-    uniform-requires
-    place-requires
-    part-requires
-    returns)
+uniform-half-spec = tie.close (tie.spec (λ c. search needs) (λ c κs. search needs) (λ c κs. search needs) part-requires returns)

@@ -11,21 +11,6 @@ use borrow.Author.Needs.{needs}
 use Rattle.lines.proofs.heading.put_tail.Statement.{statement}
 use Rattle.lines.proofs.heading.put_tail.Tie as tie
 
-mul-start : tie.Need-mul-start
-mul-start c = search needs
-
-array-read-start : tie.Need-array-read-start
-array-read-start c = search needs
-
-add-end : tie.Need-add-end
-add-end c = search needs
-
-mul-end : tie.Need-mul-end
-mul-end c = search needs
-
-array-read-end : tie.Need-array-read-end
-array-read-end c = search needs
-
 sub-put : tie.Need-sub-put
 unfolding rows starts
 sub-put c = starts-rise (c .before .before .args .place) (c .before .before .pre .0)
@@ -46,9 +31,6 @@ put-requires c κs =
     let h = s .pre .0 in
     rw (length-take, length-drop) (omega (arith, size-right p h, starts-rise p h, starts-within p h))
 
-same-length : tie.Need-same-length
-same-length c = search needs
-
 returns : tie.Need-returns
 unfolding rows starts tails
 returns c =
@@ -60,14 +42,5 @@ pub put-tail-spec : {M : Type 1} → statement M
 put-tail-spec =
     tie.close
     (tie.spec
-    mul-start
-    array-read-start
-    add-end
-    mul-end
-    array-read-end
-    sub-put
-    part-put-start
-    part-put-end
-    put-requires
-    same-length
-    returns)
+    (λ c. search needs) (λ c. search needs) (λ c. search needs) (λ c. search needs) (λ c. search needs) sub-put part-put-start
+    part-put-end put-requires (λ c. search needs) returns)

@@ -5,21 +5,6 @@ use borrow.Author.Needs.{needs}
 use Rattle.lines.proofs.heading.tail_length.Statement.{statement}
 use Rattle.lines.proofs.heading.tail_length.Tie as tie
 
-add-result : tie.Need-add-result
-add-result c = search needs
-
-mul-result : tie.Need-mul-result
-mul-result c = search needs
-
-array-read-result : tie.Need-array-read-result
-array-read-result c = search needs
-
-mul-result-2 : tie.Need-mul-result-2
-mul-result-2 c = search needs
-
-array-read-result-2 : tie.Need-array-read-result-2
-array-read-result-2 c = search needs
-
 sub-result : tie.Need-sub-result
 unfolding rows starts
 sub-result c = starts-rise (c .args .place) (c .pre)
@@ -32,10 +17,4 @@ pub tail-length-spec : {M : Type 1} → statement M
 tail-length-spec =
     tie.close
     (tie.spec
-    add-result
-    mul-result
-    array-read-result
-    mul-result-2
-    array-read-result-2
-    sub-result
-    returns)
+    (λ c. search needs) (λ c. search needs) (λ c. search needs) (λ c. search needs) (λ c. search needs) sub-result returns)

@@ -7,9 +7,6 @@ use Rattle.lines.specs.Line.{tailAt}
 use Rattle.listing.proofs.line.line_length.Statement.{statement}
 use Rattle.listing.proofs.line.line_length.Tie as tie
 
-place-requires : tie.Need-place-requires
-place-requires c κs = search needs
-
 line-length-requires : tie.Need-line-length-requires
 line-length-requires c κs = (rw (c .place .ensures) (place-below (c .before .args .i)), c .before .pre)
 
@@ -20,4 +17,4 @@ returns c =
     (e .0 ∙ ap (λ (p : ℕ). 5 + 2 * k + length (tailAt p)) (c .before .place .ensures), e .1)
 
 pub line-length-spec : {M : Type 1} → statement M
-line-length-spec = tie.close (tie.spec place-requires line-length-requires returns)
+line-length-spec = tie.close (tie.spec (λ c κs. search needs) line-length-requires returns)

@@ -10,18 +10,12 @@ use Rattle.lines.specs.Line.{tailAt, lineAt}
 use Rattle.listing.proofs.line.put_line.Statement.{statement}
 use Rattle.listing.proofs.line.put_line.Tie as tie
 
-place-requires : tie.Need-place-requires
-place-requires c κs = search needs
-
 put-line-requires : tie.Need-put-line-requires
 put-line-requires c κs =
     let i = c .before .before .before .before .args .i in
     let e = c .place .ensures in
     let l : length (tailAt (c .place .result)) ≡ length (tailAt (placeOf i)) = ap (λ (p : ℕ). length (tailAt p)) e in
     (omega arith, omega arith, rw e (place-below i))
-
-same-length : tie.Need-same-length
-same-length c = search needs
 
 returns : tie.Need-returns
 returns c =
@@ -31,4 +25,4 @@ returns c =
     ∙ ap (λ (q : ℕ). sets (a .text .now) (a .n) (lineAt (a .at) (a .bytes .now) q)) (p .place .ensures)
 
 pub put-line-spec : {M : Type 1} → statement M
-put-line-spec = tie.close (tie.spec place-requires put-line-requires same-length returns)
+put-line-spec = tie.close (tie.spec (λ c κs. search needs) put-line-requires (λ c. search needs) returns)

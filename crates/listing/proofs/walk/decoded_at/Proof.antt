@@ -14,18 +14,6 @@ use Rattle.listing.proofs.walk.decoded_at.Tie as tie
 returns : tie.Need-returns
 returns c = rw (lt-leb (length (c .before .before .args .code .now)) limit (omega arith))
 
-sub-decode : tie.Need-sub-decode
-sub-decode c = search needs
-
-part-decode-start : tie.Need-part-decode-start
-part-decode-start c = search needs
-
-part-decode-end : tie.Need-part-decode-end
-part-decode-end c = search needs
-
-decode-requires : tie.Need-decode-requires
-decode-requires c κs = search needs
-
 returns-2 : tie.Need-returns-2
 returns-2 c =
     let a = c .before .before .before .before .args in
@@ -37,4 +25,5 @@ returns-2 c =
 pub decoded-at-spec : {M : Type 1} → statement M
 decoded-at-spec =
     tie.close
-    (tie.spec returns sub-decode part-decode-start part-decode-end decode-requires returns-2)
+    (tie.spec
+    returns (λ c. search needs) (λ c. search needs) (λ c. search needs) (λ c κs. search needs) returns-2)

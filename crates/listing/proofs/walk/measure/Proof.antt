@@ -33,12 +33,6 @@ loop-holds : tie.Need-loop-holds Inv-loop μ-loop
 loop-holds c =
     (omega arith, omega arith, omega arith, omega (arith, ap length (left-all (c .before .args .code .now))))
 
-decoded-at-requires : tie.Need-decoded-at-requires Inv-loop μ-loop
-decoded-at-requires c κs = omega arith
-
-enum-known-i : tie.Need-enum-known-i Inv-loop μ-loop
-enum-known-i c = search needs
-
 line-length-requires : tie.Need-line-length-requires Inv-loop μ-loop
 line-length-requires c κs = omega (arith, turn c)
 
@@ -54,12 +48,6 @@ loop-less c = omega (arith, turn (c .before))
 loop-again : tie.Need-loop-again Inv-loop μ-loop
 loop-again c = omega (arith, turn (c .before))
 
-enum-told : tie.Need-enum-told Inv-loop μ-loop
-enum-told c = search needs
-
-add-result : tie.Need-add-result Inv-loop μ-loop
-add-result c = omega arith
-
 returns : tie.Need-returns Inv-loop μ-loop
 unfolding refusedLine
 returns c =
@@ -71,9 +59,6 @@ returns c =
     let e = left-refused code at (r .0 .0) (d .result) t (d .ensures) (r .1) in
     omega (arith, ap length e)
 
-add-result-2 : tie.Need-add-result-2 Inv-loop μ-loop
-add-result-2 c = omega arith
-
 returns-2 : tie.Need-returns-2 Inv-loop μ-loop
 unfolding endLine
 returns-2 c =
@@ -84,18 +69,5 @@ pub measure-spec : {M : Type 1} → statement M
 measure-spec =
     tie.close
     (tie.spec
-    Inv-loop
-    μ-loop
-    loop-holds
-    decoded-at-requires
-    enum-known-i
-    line-length-requires
-    add-n
-    add-at
-    loop-less
-    loop-again
-    enum-told
-    add-result
-    returns
-    add-result-2
-    returns-2)
+    Inv-loop μ-loop loop-holds (λ c κs. omega arith) (λ c. search needs) line-length-requires add-n add-at loop-less loop-again
+    (λ c. search needs) (λ c. omega arith) returns (λ c. omega arith) returns-2)

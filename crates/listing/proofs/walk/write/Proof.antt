@@ -58,20 +58,8 @@ loop-holds c =
     let e = left-all (a .code .now) in
     (omega arith, omega arith, refl, omega (arith, ap length e), ap (λ (s : List ℕ). sets (a .text .now) 0 s) e)
 
-decoded-at-requires : tie.Need-decoded-at-requires Inv-loop μ-loop
-decoded-at-requires c κs = omega arith
-
-enum-known-i : tie.Need-enum-known-i Inv-loop μ-loop
-enum-known-i c = search needs
-
 add-end : tie.Need-add-end Inv-loop μ-loop
 add-end c = omega (arith, turn c)
-
-sub-put-line : tie.Need-sub-put-line Inv-loop μ-loop
-sub-put-line c = omega arith
-
-part-put-line-start : tie.Need-part-put-line-start Inv-loop μ-loop
-part-put-line-start c = omega arith
 
 part-put-line-end : tie.Need-part-put-line-end Inv-loop μ-loop
 part-put-line-end c = omega (arith, turn (c .before))
@@ -110,17 +98,11 @@ loop-again c =
           ∙ l .inv .4,
     )
 
-enum-known-r : tie.Need-enum-known-r Inv-loop μ-loop
-enum-known-r c = search needs
-
 put-refused-requires : tie.Need-put-refused-requires Inv-loop μ-loop
 unfolding refusedLine
 put-refused-requires c κs =
     let e = ap length (stop (c .before)) in
     (omega arith, omega arith)
-
-same-length : tie.Need-same-length Inv-loop μ-loop
-same-length c = omega arith
 
 returns : tie.Need-returns Inv-loop μ-loop
 returns c =
@@ -135,9 +117,6 @@ put-end-requires c κs =
     let e = ap length (finish (c .before)) in
     (omega arith, omega arith)
 
-same-length-2 : tie.Need-same-length-2 Inv-loop μ-loop
-same-length-2 c = omega arith
-
 returns-2 : tie.Need-returns-2 Inv-loop μ-loop
 returns-2 c =
     let l = c .before .before .before .before .before .loop in
@@ -149,24 +128,6 @@ pub write-spec : {M : Type 1} → statement M
 write-spec =
     tie.close
     (tie.spec
-    Inv-loop
-    μ-loop
-    loop-holds
-    decoded-at-requires
-    enum-known-i
-    add-end
-    sub-put-line
-    part-put-line-start
-    part-put-line-end
-    put-line-requires
-    line-length-requires
-    add-n
-    loop-less
-    loop-again
-    enum-known-r
-    put-refused-requires
-    same-length
-    returns
-    put-end-requires
-    same-length-2
-    returns-2)
+    Inv-loop μ-loop loop-holds (λ c κs. omega arith) (λ c. search needs) add-end (λ c. omega arith) (λ c. omega arith)
+    part-put-line-end put-line-requires line-length-requires add-n loop-less loop-again (λ c. search needs) put-refused-requires
+    (λ c. omega arith) returns put-end-requires (λ c. omega arith) returns-2)

@@ -2,18 +2,6 @@ use borrow.Author.Needs.{needs}
 use Rattle.numbers.proofs.build.of_binary.Statement.{statement}
 use Rattle.numbers.proofs.build.of_binary.Tie as tie
 
-bare-requires : tie.Need-bare-requires
-bare-requires c κs = search needs
-
-dst-slot-requires : tie.Need-dst-slot-requires
-dst-slot-requires c κs = search needs
-
-src-slot-requires : tie.Need-src-slot-requires
-src-slot-requires c κs = search needs
-
-src-slot-requires-2 : tie.Need-src-slot-requires-2
-src-slot-requires-2 c κs = search needs
-
 returns : tie.Need-returns
 returns c =
     rw
@@ -23,4 +11,5 @@ returns c =
 pub of-binary-spec : {M : Type 1} → statement M
 of-binary-spec =
     tie.close
-    (tie.spec bare-requires dst-slot-requires src-slot-requires src-slot-requires-2 returns)
+    (tie.spec
+    (λ c κs. search needs) (λ c κs. search needs) (λ c κs. search needs) (λ c κs. search needs) returns)

@@ -2,11 +2,8 @@ use borrow.Author.Needs.{needs}
 use Rattle.numbers.proofs.build.of_jump.Statement.{statement}
 use Rattle.numbers.proofs.build.of_jump.Tie as tie
 
-bare-requires : tie.Need-bare-requires
-bare-requires c κs = search needs
-
 returns : tie.Need-returns
 returns c = rw (c .bare .ensures)
 
 pub of-jump-spec : {M : Type 1} → statement M
-of-jump-spec = tie.close (tie.spec bare-requires returns)
+of-jump-spec = tie.close (tie.spec (λ c κs. search needs) returns)

@@ -2,21 +2,6 @@ use borrow.Author.Needs.{needs}
 use Rattle.numbers.proofs.build.of_ternary.Statement.{statement}
 use Rattle.numbers.proofs.build.of_ternary.Tie as tie
 
-bare-requires : tie.Need-bare-requires
-bare-requires c κs = search needs
-
-dst-slot-requires : tie.Need-dst-slot-requires
-dst-slot-requires c κs = search needs
-
-src-slot-requires : tie.Need-src-slot-requires
-src-slot-requires c κs = search needs
-
-src-slot-requires-2 : tie.Need-src-slot-requires-2
-src-slot-requires-2 c κs = search needs
-
-src-slot-requires-3 : tie.Need-src-slot-requires-3
-src-slot-requires-3 c κs = search needs
-
 returns : tie.Need-returns
 returns c =
     rw
@@ -27,9 +12,4 @@ pub of-ternary-spec : {M : Type 1} → statement M
 of-ternary-spec =
     tie.close
     (tie.spec
-    bare-requires
-    dst-slot-requires
-    src-slot-requires
-    src-slot-requires-2
-    src-slot-requires-3
-    returns)
+    (λ c κs. search needs) (λ c κs. search needs) (λ c κs. search needs) (λ c κs. search needs) (λ c κs. search needs) returns)

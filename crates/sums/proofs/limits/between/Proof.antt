@@ -6,12 +6,6 @@ use Rattle.sums.proofs.Caps.{limit-low, limit-high}
 use Rattle.sums.proofs.limits.between.Statement.{statement}
 use Rattle.sums.proofs.limits.between.Tie as tie
 
-sub-if3 : tie.Need-sub-if3
-sub-if3 c = search needs
-
-wrapping-sub-u64-requires : tie.Need-wrapping-sub-u64-requires
-wrapping-sub-u64-requires c κs = search needs
-
 returns : tie.Need-returns
 returns c =
     let a = c .before .before .args in
@@ -33,5 +27,4 @@ returns-4 c =
     sym (limit-high (a .below) (a .high) (a .x) (omega arith) (omega arith) ∙ omega arith)
 
 pub between-spec : {M : Type 1} → statement M
-between-spec =
-    tie.close (tie.spec sub-if3 wrapping-sub-u64-requires returns returns-2 returns-3 returns-4)
+between-spec = tie.close (tie.spec (λ c. search needs) (λ c κs. search needs) returns returns-2 returns-3 returns-4)

@@ -29,29 +29,14 @@ half-of s p =
     let q = pow-pos (s - 1) in
     record { positive = omega arith; twice = omega arith; fits = omega arith }
 
-sub-half : tie.Need-sub-half
-sub-half c = search needs
-
-cast-half : tie.Need-cast-half
-cast-half c = search needs
-
-shl-half : tie.Need-shl-half
-shl-half c = search needs
-
 sub-between : tie.Need-sub-between
 sub-between c = half-of (c .before .args .size) (c .before .pre) .positive
-
-between-requires : tie.Need-between-requires
-between-requires c κs = search needs
 
 sub-between-2 : tie.Need-sub-between-2
 sub-between-2 c = half-of (c .before .args .size) (c .before .pre) .positive
 
 add-between : tie.Need-add-between
 add-between c = let f = half-of (c .before .args .size) (c .before .pre) .fits in omega arith
-
-between-requires-2 : tie.Need-between-requires-2
-between-requires-2 c κs = search needs
 
 returns : tie.Need-returns
 unfolding saturateInteger
@@ -73,13 +58,5 @@ pub limited-spec : {M : Type 1} → statement M
 limited-spec =
     tie.close
     (tie.spec
-    sub-half
-    cast-half
-    shl-half
-    sub-between
-    between-requires
-    sub-between-2
-    add-between
-    between-requires-2
-    returns
-    returns-2)
+    (λ c. search needs) (λ c. search needs) (λ c. search needs) sub-between (λ c κs. search needs) sub-between-2 add-between
+    (λ c κs. search needs) returns returns-2)

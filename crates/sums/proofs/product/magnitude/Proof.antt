@@ -7,9 +7,6 @@ use Rattle.sums.proofs.Caps.{signed-low, signed-high}
 use Rattle.sums.proofs.product.magnitude.Statement.{statement}
 use Rattle.sums.proofs.product.magnitude.Tie as tie
 
-wrapping-sub-u64-requires : tie.Need-wrapping-sub-u64-requires
-wrapping-sub-u64-requires c κs = search needs
-
 returns : tie.Need-returns
 returns c = sym (ap natAbs (signed-low (c .before .args .x) (omega arith)))
 
@@ -17,4 +14,4 @@ returns-2 : tie.Need-returns-2
 returns-2 c = sym (ap natAbs (signed-high (c .before .before .args .x) (omega arith)) ∙ omega arith)
 
 pub magnitude-spec : {M : Type 1} → statement M
-magnitude-spec = tie.close (tie.spec wrapping-sub-u64-requires returns returns-2)
+magnitude-spec = tie.close (tie.spec (λ c κs. search needs) returns returns-2)

@@ -21,21 +21,9 @@ distance c =
         = omega (arith, c .before .magnitude2 .ensures, s .pre .1) in
     c .least .ensures ∙ (λ i. min (e i * f i) (s .args .most))
 
-magnitude-requires : tie.Need-magnitude-requires
-magnitude-requires c κs = search needs
-
-magnitude-requires-2 : tie.Need-magnitude-requires-2
-magnitude-requires-2 c κs = search needs
-
 mul-least : tie.Need-mul-least
 mul-least c =
     omega (arith, product-lt (c .before .magnitude .result % 2 ^ 32) (c .magnitude2 .result % 2 ^ 32) (omega arith) (omega arith))
-
-least-requires : tie.Need-least-requires
-least-requires c κs = search needs
-
-wrapping-sub-u64-requires : tie.Need-wrapping-sub-u64-requires
-wrapping-sub-u64-requires c κs = search needs
 
 returns : tie.Need-returns
 returns c =
@@ -53,10 +41,4 @@ pub product-spec : {M : Type 1} → statement M
 product-spec =
     tie.close
     (tie.spec
-    magnitude-requires
-    magnitude-requires-2
-    mul-least
-    least-requires
-    wrapping-sub-u64-requires
-    returns
-    returns-2)
+    (λ c κs. search needs) (λ c κs. search needs) mul-least (λ c κs. search needs) (λ c κs. search needs) returns returns-2)

@@ -10,9 +10,6 @@ use Rattle.sums.proofs.Modulo.{modulo-pos, modulo-neg}
 use Rattle.sums.proofs.term.opposite.Statement.{statement}
 use Rattle.sums.proofs.term.opposite.Tie as tie
 
-wrapping-sub-u64-requires : tie.Need-wrapping-sub-u64-requires
-wrapping-sub-u64-requires c κs = search needs
-
 returns : tie.Need-returns
 unfolding negated
 returns c =
@@ -27,4 +24,4 @@ returns-2 c =
     rw (ne-eqb (a .negate) 1 (c .if1 .left)) (sym (modulo-pos (a .x) (omega arith)))
 
 pub opposite-spec : {M : Type 1} → statement M
-opposite-spec = tie.close (tie.spec wrapping-sub-u64-requires returns returns-2)
+opposite-spec = tie.close (tie.spec (λ c κs. search needs) returns returns-2)

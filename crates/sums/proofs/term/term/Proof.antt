@@ -10,12 +10,6 @@ use Rattle.signs.proofs.Shifts.{modulo-up}
 use Rattle.sums.proofs.term.term.Statement.{statement}
 use Rattle.sums.proofs.term.term.Tie as tie
 
-opposite-requires : tie.Need-opposite-requires
-opposite-requires c κs = search needs
-
-shl-result : tie.Need-shl-result
-shl-result c = search needs
-
 returns : tie.Need-returns
 unfolding scaled
 returns c =
@@ -29,4 +23,4 @@ unfolding scaled modulo
 returns-2 c = rw (le-ltb (c .before .args .shift) 5 (c .if1 .left))
 
 pub term-spec : {M : Type 1} → statement M
-term-spec = tie.close (tie.spec opposite-requires shl-result returns returns-2)
+term-spec = tie.close (tie.spec (λ c κs. search needs) (λ c. search needs) returns returns-2)
