@@ -1,3 +1,3 @@
-pub mod Encoding
+pub mod Encoded
 pub mod Run
 pub mod Returned

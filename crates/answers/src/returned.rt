@@ -2,7 +2,7 @@
 ghost use mathlib.Core.Path.{_≡_};
 ghost use Prim.Native.Nat.{_≤_};
 ghost use lib.IntN.{pos};
-ghost use Rattle.answers.specs.Encoding.{countOf};
+ghost use Rattle.answers.specs.Encoded.{countOf};
 ghost use Rattle.answers.specs.Returned.{refusedBy, encodedBy, endedBy};
 
 use isa::answer::Encoded;

@@ -16,9 +16,9 @@ use Rattle.isa.specs.declared.answer.Encoded.{Encoded}
 use Rattle.isa.specs.declared.instruction.Instruction.{Instruction}
 use Rattle.isa.specs.Parts.{partsOf, lengthFor, same}
 use Rattle.isa.specs.declared.parts.Parts.{Parts}
-use Rattle.writing.specs.Write.{wordFor}
+use Rattle.encoding.specs.Write.{wordFor}
 use Rattle.encode.specs.Encode.{lengthOf, bytesFor, isFound, accepts, encodedOf, encodingLeft}
-use Rattle.answers.specs.Encoding.{answerBy, countOf}
+use Rattle.answers.specs.Encoded.{answerBy, countOf}
 
 pub length-eight : (n w : ℕ) (bs : List ℕ) → bs ≡ bytesOf 8 w → n < 9 → length (take n bs) ≡ n
 length-eight n w bs e h = rw (e, take-bytes 8 n w (le-of-suc-le-suc h)) (length-bytesOf n w)

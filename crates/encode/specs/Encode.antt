@@ -12,10 +12,10 @@ use Rattle.isa.specs.declared.answer.Decoded.{Decoded}
 use Rattle.isa.specs.declared.answer.Encoded.{Encoded}
 use Rattle.isa.specs.declared.instruction.Instruction.{Instruction}
 use Rattle.isa.specs.Parts.{partsOf, lengthFor, same}
-use Rattle.writing.specs.Write.{wordFor}
+use Rattle.encoding.specs.Write.{wordFor}
 use Rattle.form.specs.Form.{spelledOf}
 use Rattle.form.specs.declared.Spelled.{Spelled}
-use Rattle.answers.specs.Encoding.{answerBy}
+use Rattle.answers.specs.Encoded.{answerBy}
 
 abbrev pub lengthOf : Instruction → ℕ
 lengthOf i = lengthFor (partsOf i)

@@ -2,7 +2,7 @@
 ghost use mathlib.Core.Path.{_≡_};
 ghost use Rattle.encode.specs.Encode.{isFound, encodedOf, encodingLeft, encodedFrom, leftFrom};
 
-use answers::encoding;
+use answers::encoded;
 use bits::piece;
 use form::Spelled;
 use isa::answer::Decoded;
@@ -31,8 +31,8 @@ pub fn encode(i: Instruction, out: &mut [u8]) -> Encoded
 {
     let n = numbers::length_of(parts::parts_of(i));
     let b = bits::bytes_of(writing::word_for(i));
-    let a = encoding::answer(is_found(decode::decode(&b[..n]), i, n), n, out.len());
-    let k = encoding::written(a);
+    let a = encoded::answer(is_found(decode::decode(&b[..n]), i, n), n, out.len());
+    let k = encoded::written(a);
     piece::put(out, 0, &b[..k]);
     a
 }

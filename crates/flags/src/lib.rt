@@ -1,18 +1,13 @@
 // The numbers and the flags of operands, as the fields of a word hold them.
 ghost use mathlib.Core.Path.{_≡_};
 ghost use Prim.Native.Nat.{_<_};
-ghost use Rattle.flags.specs.Flags.{dstNumbers, srcNumbers, cacheBit, dstNumber, dstFlags, hintBits, srcNumber, srcFlags};
+ghost use Rattle.encoding.specs.Flags.{dstNumbers, srcNumbers, cacheBit, dstNumber, dstFlags, hintBits, srcNumber, srcFlags};
+use encoding::Numbers;
 use isa::operand::Destination;
 use isa::operand::Dst;
 use isa::operand::Hint;
 use isa::operand::Source;
 use isa::operand::Src;
-
-// What a word holds of an operand: the joined number v, as Dx:D, and the flags t, as Dt.
-pub struct Numbers {
-    pub v: u64,
-    pub t: u64,
-}
 
 pub fn cache_bit(h: Hint) -> u64
     ensures { λ r. ⌜ (r ≡ cacheBit h) × (r < 3) ⌝ }

@@ -12,7 +12,7 @@ use Rattle.isa.specs.Find.{forms}
 use Rattle.isa.specs.Operand.{destinationOf}
 use Rattle.isa.specs.Together.{withDst}
 use Rattle.isa.specs.Decode.{decodeOf}
-use Rattle.listing.specs.Walk.{walkFrom, walkOf, shown, stop, refusal}
+use Rattle.walk.specs.Walk.{walkFrom, walkOf, shown, stop, refusal}
 use Rattle.isa.specs.Parts.{partsOf}
 use Rattle.lines.specs.Line.{lineAt, lineOf, endLine}
 use Rattle.listing.specs.Listing.{textOf, listingOf}

@@ -14,7 +14,7 @@ use Rattle.isa.specs.Decode.{decodeOf}
 use Rattle.isa.specs.declared.answer.Refusal.{Refusal}
 use Rattle.isa.specs.declared.answer.Decoded.{Decoded}
 use Rattle.isa.specs.declared.instruction.Instruction.{Instruction}
-use Rattle.listing.specs.Walk.{Walk, refused, stepped, onDecoded, walkFrom, walkOf, standsAt, limit}
+use Rattle.walk.specs.Walk.{Walk, refused, stepped, onDecoded, walkFrom, walkOf, standsAt, limit}
 use Rattle.isa.specs.Parts.{placeOf}
 use Rattle.lines.specs.Line.{lineOf, endLine, refusedLine, tailAt}
 use Rattle.listing.specs.Listing.{textOf, listingOf}

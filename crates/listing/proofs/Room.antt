@@ -13,7 +13,7 @@ use Rattle.isa.specs.Decode.{decodeOf}
 use Rattle.isa.specs.Parts.{placeOf}
 use Rattle.isa.specs.declared.answer.Refusal.{Refusal}
 use Rattle.isa.specs.declared.instruction.Instruction.{Instruction}
-use Rattle.listing.specs.Walk.{Walk, refused, stepped, walkFrom, walkOf, limit}
+use Rattle.walk.specs.Walk.{Walk, refused, stepped, walkFrom, walkOf, limit}
 use Rattle.lines.specs.Line.{lineOf, tailAt, endLine, refusedLine}
 use Rattle.listing.specs.Listing.{textOf, listingOf, listedOf, listingLeft}
 use Rattle.listing.specs.declared.Listed.{Listed}

@@ -14,7 +14,7 @@ use Rattle.isa.proofs.Found.{found-length}
 use Rattle.isa.specs.Decode.{decodeOf}
 use Rattle.isa.specs.declared.answer.Refusal.{Refusal}
 use Rattle.isa.specs.declared.instruction.Instruction.{Instruction}
-use Rattle.listing.specs.Walk.{Walk, refused, stepped, walkFrom, walkOf, limit, shown, stop, refusal}
+use Rattle.walk.specs.Walk.{Walk, refused, stepped, walkFrom, walkOf, limit, shown, stop, refusal}
 use Rattle.listing.proofs.Left.{step-all, shorter}
 use Rattle.listing.proofs.Apart.{Plain}
 

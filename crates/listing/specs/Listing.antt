@@ -6,7 +6,7 @@ use lib.Dec.{leb}
 use lib.ListN.{length, drop}
 use Rattle.isa.specs.declared.answer.Refusal.{Refusal}
 use Rattle.lines.specs.Line.{lineOf, endLine, refusedLine}
-use Rattle.listing.specs.Walk.{Walk, ended, refused, stepped, walkOf}
+use Rattle.walk.specs.Walk.{Walk, ended, refused, stepped, walkOf}
 use Rattle.listing.specs.declared.Listed.{Listed}
 
 -- a line for each instruction, then the last line

@@ -4,12 +4,9 @@ ghost use lib.ListN.{length};
 ghost use Rattle.listing.specs.Listing.{listedOf, listingLeft};
 
 mod line;
-mod walk;
+mod text;
 
 use isa::answer::Refusal;
-
-// The most bytes that are listed.
-pub const LIMIT: usize = 8192;
 
 // The number of bytes written, or the refusal.
 pub enum Listed {
@@ -22,9 +19,9 @@ pub fn list(code: &[u8], text: &mut [u8]) -> Listed
     ensures { λ r. ⌜ (r ≡ listedOf (now (code .entry)) (length (now (text .entry))))
         × (now (text .exit) ≡ listingLeft (now (code .entry)) (now (text .entry))) ⌝ }
 {
-    let n = walk::measure(code);
+    let n = text::measure(code);
     if n <= text.len() {
-        walk::write(code, text);
+        text::write(code, text);
         Listed::Wrote(n)
     } else {
         Listed::Refused(Refusal::BadSize)

@@ -25,9 +25,9 @@ fn list_again(code: &[u8], out: &mut [u8], text: &mut [u8]) -> usize
 
 // With one byte more than the most that are listed, or after a read that failed, the listing is that of a kernel too long.
 fn main() {
-    let mut code = [0u8; listing::LIMIT + 1];
+    let mut code = [0u8; walk::LIMIT + 1];
     let n = stdin::read_all(&mut code);
-    let mut out = [0u8; listing::LIMIT + 1];
+    let mut out = [0u8; walk::LIMIT + 1];
     let mut text = io::large_buffer();
     let k = list_again(&code[..n], &mut out, &mut text);
     io::write_all(STDOUT_FILENO, &text[..k]);

@@ -16,9 +16,9 @@ use Rattle.form.proofs.Form.{spelled-form}
 use Rattle.encode.specs.Encode.{encodedSpelled, leftSpelled, encodedFrom}
 use Rattle.roundtrip.proofs.Round.{decode-encode, encode-decode}
 use Rattle.answers.specs.Returned.{decodedBy, encodedBy}
-use Rattle.reedtassel.specs.DecodeAt.{formLength, decodedAt, formLeft, DecodesAt}
+use Rattle.decodeat.specs.DecodeAt.{formLength, decodedAt, formLeft, DecodesAt}
 use Rattle.reedtassel.specs.EncodeForm.{EncodesForm}
-use Rattle.reedtassel.proofs.Decoding.{form-first, decoded-there}
+use Rattle.decodeat.proofs.Decoding.{form-first, decoded-there}
 
 module _ {code : List ℕ} {offset : ℕ} {instruction : List ℕ} {z : ℤ} {left : List ℕ} (d : DecodesAt code offset instruction z left)
   (bytes : Bytes code) (i : Instruction) (n : ℕ) (e : decodedAt code offset instruction ≡ Decoded.Found i n) where

@@ -10,7 +10,7 @@ use Rattle.numbers.proofs.Length.{length-for}
 use Rattle.form.specs.Form.{spelledOf}
 use Rattle.form.specs.declared.Spelled.{Spelled}
 use Rattle.encode.specs.Encode.{lengthOf, accepts, encodedOf, encodedSpelled, encodedFrom}
-use Rattle.answers.specs.Encoding.{answerBy, countOf}
+use Rattle.answers.specs.Encoded.{answerBy, countOf}
 
 pub count-small : (form out : List ℕ) (e : Encoded) → e ≡ encodedFrom form out → countOf e ≤ 8
 unfolding encodedOf

@@ -1,3 +1,2 @@
-pub mod DecodeAt
 pub mod EncodeForm
 pub mod Run

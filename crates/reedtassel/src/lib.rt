@@ -1,34 +1,18 @@
 // The interface for C: decoding at an offset, encoding and a run, on numbers and byte slices. docs/c-interface.md has the layouts. A
 // negative number is minus a refusal's. Any numbers and any lengths may be lent.
-ghost use Rattle.reedtassel.specs.DecodeAt.{DecodesAt};
+ghost use Rattle.decodeat.specs.DecodeAt.{DecodesAt};
 ghost use Rattle.reedtassel.specs.EncodeForm.{EncodesForm};
 ghost use Rattle.runbytes.specs.RunBytes.{lentOf};
 ghost use Rattle.reedtassel.specs.Run.{RunsBytes};
 
 use answers::returned;
-use bits::piece;
-use isa::answer::Decoded;
-use isa::answer::Refusal;
 
 // The instruction at a byte of the code, in its byte form, and its length. Refused, nothing is written.
 #[no_mangle]
 pub extern "C" fn reedtassel_decode(code: &[u8], offset: usize, instruction: &mut [u8]) -> i32
     ensures { λ r. ⌜ DecodesAt (now (code .entry)) offset (now (instruction .entry)) r (now (instruction .exit)) ⌝ }
 {
-    if code.len() < offset {
-        return returned::refused(Refusal::BadSize);
-    }
-    if instruction.len() < 48 {
-        return returned::refused(Refusal::BadSize);
-    }
-    match decode::decode(&code[offset..]) {
-        Decoded::Found(i, n) => {
-            let form = form::to_bytes(i);
-            piece::put(instruction, 0, &form);
-            returned::count(n)
-        }
-        Decoded::Refused(r) => returned::refused(r),
-    }
+    decodeat::decode_at(code, offset, instruction)
 }
 
 // The bytes of an instruction in its byte form, and their number. Refused, nothing is written.

@@ -28,8 +28,8 @@ use Rattle.isa.specs.declared.instruction.Scan.{Scan}
 use Rattle.isa.specs.declared.instruction.Compare.{Compare}
 use Rattle.isa.specs.declared.instruction.Instruction.{Instruction}
 use Rattle.isa.specs.declared.answer.Reading.{Reading}
-use Rattle.writing.specs.Write.{Named, _is_, numberIn, ofUnary, ofBinary, ofBitfield, ofCompare, fieldsFor}
-use Rattle.flags.specs.Flags.{cacheBit, dstNumber, dstFlags, srcNumber, srcFlags}
+use Rattle.encoding.specs.Write.{Named, _is_, numberIn, ofUnary, ofBinary, ofBitfield, ofCompare, fieldsFor}
+use Rattle.encoding.specs.Flags.{cacheBit, dstNumber, dstFlags, srcNumber, srcFlags}
 use Rattle.roundtrip.specs.Reasons.{HoldsDst, HoldsSrc, HoldsHint, HoldsUnary, HoldsBinary, HoldsTernary, HoldsCompare}
 use Rattle.roundtrip.proofs.Operands.{dst-back, src-back, cache-bit}
 use Rattle.roundtrip.proofs.Words.{Agree}

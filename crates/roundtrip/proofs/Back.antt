@@ -29,7 +29,7 @@ use Rattle.isa.specs.declared.instruction.Instruction.{Instruction}
 use Rattle.isa.proofs.Found.{Matched, found-form, only-form, found-length}
 use Rattle.isa.proofs.Placed.{length-rows, place-below, found-place}
 use Rattle.isa.proofs.WasRead.{Reads}
-use Rattle.writing.specs.Write.{wordFor}
+use Rattle.encoding.specs.Write.{wordFor}
 use Rattle.encode.specs.Encode.{lengthOf, bytesFor}
 use Rattle.roundtrip.proofs.Words.{whole, all-whole, word-again}
 use Rattle.roundtrip.proofs.Told.{Told, Fixed, AllTold, rows-told}

@@ -14,7 +14,7 @@ use Rattle.isa.specs.declared.answer.Decoded.{Decoded}
 use Rattle.isa.specs.declared.answer.Encoded.{Encoded}
 use Rattle.isa.proofs.Examples.{Example, examples}
 use Rattle.isa.specs.Parts.{partsOf, lengthFor, keptOf}
-use Rattle.writing.specs.Write.{fieldsFor, wordFor}
+use Rattle.encoding.specs.Write.{fieldsFor, wordFor}
 use Rattle.encode.specs.Encode.{accepts, encodedOf, encodingLeft}
 
 pub record Written : Type 0 where

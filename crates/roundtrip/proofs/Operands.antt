@@ -13,7 +13,7 @@ use Rattle.isa.specs.declared.operand.Dst.{Dst}
 use Rattle.isa.specs.declared.operand.Src.{Src}
 use Rattle.isa.specs.declared.operand.ReadDst.{ReadDst}
 use Rattle.isa.specs.declared.operand.ReadSrc.{ReadSrc}
-use Rattle.flags.specs.Flags.{cacheBit, hintBits, dstNumber, dstFlags, srcNumber, srcFlags}
+use Rattle.encoding.specs.Flags.{cacheBit, hintBits, dstNumber, dstFlags, srcNumber, srcFlags}
 
 ruleset tests = (arith, eqb-true, eqb-false)
 

@@ -12,7 +12,7 @@ use Rattle.bits.proofs.Masks.{and-assoc, and-or}
 use Rattle.bits.proofs.Table.{all, left, right}
 use Rattle.isa.specs.Diagram.{Diagram, Field, widthOf, spanMask, mask, fixedValue}
 use Rattle.isa.specs.Rows.{rows}
-use Rattle.writing.specs.Write.{Named, numberIn, put, over, wordBy}
+use Rattle.encoding.specs.Write.{Named, numberIn, put, over, wordBy}
 use Rattle.roundtrip.specs.Reasons.{FieldsWithin}
 use Rattle.roundtrip.proofs.Words.{Agree, inWord}
 

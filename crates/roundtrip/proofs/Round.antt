@@ -22,7 +22,7 @@ use Rattle.form.specs.Fits.{Fits}
 use Rattle.form.specs.Form.{formOf}
 use Rattle.form.specs.declared.Spelled.{Spelled}
 use Rattle.form.proofs.Form.{form-spelled}
-use Rattle.writing.specs.Write.{wordFor}
+use Rattle.encoding.specs.Write.{wordFor}
 use Rattle.encode.specs.Encode.{lengthOf, bytesFor, isFound, accepts, encodedOf, encodingLeft, encodedSpelled, leftSpelled, encodedFrom, leftFrom}
 use Rattle.roundtrip.proofs.Back.{length-back, bytes-back, first-decodes}
 

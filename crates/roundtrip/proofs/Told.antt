@@ -28,7 +28,7 @@ use Rattle.isa.specs.declared.instruction.Instruction.{Instruction}
 use Rattle.isa.proofs.WasRead.{Reads, is-reads, on-dst, on-unary, on-binary, on-ternary, on-compared, on-condition, of-unary, of-binary, of-ternary, of-compared}
 use Rattle.isa.specs.declared.answer.Reading.{Reading}
 use Rattle.isa.specs.Parts.{partsOf, keptOf}
-use Rattle.writing.specs.Write.{Named, _is_, ofUnary, ofBinary, ofBitfield, ofCompare, fieldsFor}
+use Rattle.encoding.specs.Write.{Named, _is_, ofUnary, ofBinary, ofBitfield, ofCompare, fieldsFor}
 use Rattle.roundtrip.specs.Reasons.{Held, HoldsDst, HoldsSrc, HoldsUnary, HoldsBinary, HoldsTernary, HoldsCompare}
 use Rattle.roundtrip.proofs.Operands.{dst-told, src-told, joined-lt, cut-joined, cache-bit}
 use Rattle.roundtrip.proofs.Words.{Agree}

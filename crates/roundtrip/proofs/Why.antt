@@ -28,9 +28,9 @@ use Rattle.isa.specs.declared.answer.Decoded.{Decoded}
 use Rattle.isa.specs.declared.answer.Encoded.{Encoded}
 use Rattle.isa.specs.declared.instruction.Instruction.{Instruction}
 use Rattle.isa.proofs.Placed.{length-rows, place-below, found-place}
-use Rattle.writing.specs.Write.{Named, numberIn, put, fieldsFor, wordFor}
+use Rattle.encoding.specs.Write.{Named, numberIn, put, fieldsFor, wordFor}
 use Rattle.encode.specs.Encode.{lengthOf, bytesFor, accepts, encodedOf, encodingLeft}
-use Rattle.answers.specs.Encoding.{answerBy}
+use Rattle.answers.specs.Encoded.{answerBy}
 use Rattle.roundtrip.specs.Reasons.{Held, HoldsDst, HoldsMov, FieldsWithin, FieldsFit, KeptFits, NoAbsentBit, Finds, Encodable}
 use Rattle.roundtrip.proofs.Operands.{dst-back}
 use Rattle.roundtrip.proofs.Words.{Agree}

@@ -10,7 +10,7 @@ use Rattle.bits.proofs.Masks.{and-or, put-field, and-all}
 use Rattle.bits.proofs.Table.{all, left, right}
 use Rattle.isa.specs.Diagram.{Diagram, Field, widthOf, spanMask, mask, fixedMask, fixedValue}
 use Rattle.isa.specs.Rows.{rows}
-use Rattle.writing.specs.Write.{Named, numberIn, put, over, wordBy}
+use Rattle.encoding.specs.Write.{Named, numberIn, put, over, wordBy}
 
 -- x is what the mask m cuts out of w
 record Cut (w x m : ℕ) : Type 0 where

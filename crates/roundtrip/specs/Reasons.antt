@@ -20,7 +20,7 @@ use Rattle.isa.specs.declared.operand.ReadSrc.{ReadSrc}
 use Rattle.isa.specs.declared.instruction.Compare.{Compare}
 use Rattle.isa.specs.declared.instruction.Instruction.{Instruction}
 use Rattle.isa.specs.declared.answer.Find.{Find}
-use Rattle.writing.specs.Write.{Named, fieldsFor, numberIn, wordFor}
+use Rattle.encoding.specs.Write.{Named, fieldsFor, numberIn, wordFor}
 use Rattle.encode.specs.Encode.{lengthOf, bytesFor}
 
 -- ---- an operand or condition that its place can't hold, or that 4 refuses

@@ -1,5 +1,5 @@
 use mathlib.Core.Path.{sym, ap}
-use Rattle.flags.specs.Flags.{dstNumber}
+use Rattle.encoding.specs.Flags.{dstNumber}
 use borrow.Author.Needs.{needs}
 use Rattle.flags.proofs.destination_number.Statement.{statement}
 use Rattle.flags.proofs.destination_number.Tie as tie

@@ -1,5 +1,5 @@
 use mathlib.Core.Path.{sym, ap}
-use Rattle.flags.specs.Flags.{srcNumber}
+use Rattle.encoding.specs.Flags.{srcNumber}
 use borrow.Author.Needs.{needs}
 use Rattle.flags.proofs.source_number.Statement.{statement}
 use Rattle.flags.proofs.source_number.Tie as tie

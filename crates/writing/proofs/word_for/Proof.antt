@@ -1,6 +1,6 @@
 -- Each arm of the match writes by the layout of its case.
 use Rattle.isa.specs.Rows.{rows}
-use Rattle.writing.specs.Write.{wordFor, fieldsFor}
+use Rattle.encoding.specs.Write.{wordFor, fieldsFor}
 use Rattle.isa.specs.Parts.{partsOf}
 use borrow.Author.Needs.{needs}
 use Rattle.writing.proofs.word_for.Statement.{statement}

@@ -1,22 +1,9 @@
 use borrow.Author.Needs.{needs}
 use Rattle.action.proofs.acts.asr.Statement.{statement}
 use Rattle.action.proofs.acts.asr.Tie as tie
-use Rattle.action.proofs.acts.asr.Reads as reads
-use Rattle.action.proofs.acts.asr.Lts as lts
-use Rattle.action.proofs.acts.binary.Reads as binary-reads
-use Rattle.action.proofs.acts.source_size.Reads as source-size-reads
 
--- src/acts.rt:98:9
-source-size-requires : tie.Need-source-size-requires
-source-size-requires c κs = search needs
-
--- src/acts.rt:99:5
-binary-requires : tie.Need-binary-requires
-binary-requires c κs = search needs
-
--- src/acts.rt:94:1
 returns : tie.Need-returns
 returns c = rw (c .binary .ensures, c .before .source-size .ensures)
 
 pub asr-spec : {M : Type 1} → statement M
-asr-spec = tie.close (tie.spec source-size-requires binary-requires returns)
+asr-spec = tie.close (tie.spec (λ c κs. search needs) (λ c κs. search needs) returns)

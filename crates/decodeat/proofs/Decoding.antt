@@ -1,0 +1,89 @@
+-- The ways through decoding at an offset.
+use mathlib.Core.Path.{_≡_, sym, ap, _∙_}
+use mathlib.Core.Bool.{Bool, true, false, cond}
+use mathlib.Core.List.{List, _++_}
+use Prim.Native.Nat.{ℕ, _-_, _≤_, _<_}
+use native.Mathlib.Omega.{arith}
+use borrow.Author.Tests.{le-leb, lt-leb}
+use lib.Dec.{leb}
+use lib.IntN.{ℤ, pos}
+use lib.ListN.{length, take, drop, length-drop}
+use lib.Seq.{sets, take-all, take-at}
+use Rattle.isa.specs.Decode.{decodeOf}
+use Rattle.isa.specs.declared.answer.Refusal.{Refusal}
+use Rattle.isa.specs.declared.answer.Decoded.{Decoded}
+use Rattle.isa.specs.declared.instruction.Instruction.{Instruction}
+use Rattle.isa.proofs.Found.{found-length}
+use Rattle.form.specs.Form.{formOf, spelledOf}
+use Rattle.form.specs.declared.Spelled.{Spelled}
+use Rattle.form.proofs.Form.{form-length}
+use Rattle.machine.specs.Meaning.{both}
+use Rattle.bits.proofs.Pieces.{put-first}
+use Rattle.answers.specs.Returned.{refusedBy}
+use Rattle.decodeat.specs.DecodeAt.{formLength, decodedAt, DecodesAt}
+
+-- the part of the code that is decoded is all from the offset on
+module _ (code : List ℕ) (offset : ℕ) (h : offset ≤ length code) (d : Decoded)
+  (e : d ≡ decodeOf (take (length code - offset) (drop offset code))) where
+  decoded-part : decodeOf (drop offset code) ≡ d
+  decoded-part =
+      sym (e ∙ ap decodeOf (take-all (length code - offset) (drop offset code) (omega (arith, length-drop offset code))))
+
+  pub small : (i : Instruction) (n : ℕ) → d ≡ Decoded.Found i n → n ≤ 8
+  small i n f = found-length (drop offset code) i n (decoded-part ∙ f) .1
+
+-- the first bytes of what is left are the byte form
+pub form-first : (i : Instruction) (instruction : List ℕ) → take formLength (formOf i ++ drop formLength instruction) ≡ formOf i
+form-first i instruction = take-at (formOf i) (drop formLength instruction) formLength (form-length i)
+
+module _ (code : List ℕ) (offset : ℕ) (instruction : List ℕ) where
+  -- what is decoded is at the offset
+  pub decoded-there : (i : Instruction) (n : ℕ) → decodedAt code offset instruction ≡ Decoded.Found i n → decodeOf (drop offset code) ≡ Decoded.Found i n
+  unfolding decodedAt
+  decoded-there i n e = go (both (leb offset (length code)) (leb formLength (length instruction))) e
+    where
+      go : (b : Bool) → cond b (decodeOf (drop offset code)) (Decoded.Refused Refusal.BadSize) ≡ Decoded.Found i n
+          → decodeOf (drop offset code) ≡ Decoded.Found i n
+      go true q = q
+      go false q = let z : _≡_ {A = ℕ} 0 1 = cc in absurd (omega arith)
+
+  module _ (z : ℤ) where
+    as-refused : (r : Refusal) → decodedAt code offset instruction ≡ Decoded.Refused r → z ≡ refusedBy r
+        → DecodesAt code offset instruction z instruction
+    as-refused r d e =
+        record {
+          returns = rw d e;
+          leaves = rw d;
+          spells = λ i n f. let q : _≡_ {A = ℕ} 0 1 = cc in absurd (omega arith);
+        }
+
+    -- the offset is above the code length
+    pub past-the-code : length code < offset → z ≡ refusedBy Refusal.BadSize → DecodesAt code offset instruction z instruction
+    unfolding decodedAt
+    past-the-code h = as-refused Refusal.BadSize (rw (lt-leb offset (length code) h))
+
+    module _ (h : offset ≤ length code) where
+      -- the buffer is too short
+      pub no-room : length instruction < formLength → z ≡ refusedBy Refusal.BadSize → DecodesAt code offset instruction z instruction
+      unfolding decodedAt
+      no-room g =
+          as-refused Refusal.BadSize (rw (le-leb offset (length code) h, lt-leb formLength (length instruction) g))
+
+      module _ (d : Decoded) (e : d ≡ decodeOf (take (length code - offset) (drop offset code))) (g : formLength ≤ length instruction) where
+        decoded-here : decodedAt code offset instruction ≡ d
+        unfolding decodedAt
+        decoded-here =
+            rw (le-leb offset (length code) h, le-leb formLength (length instruction) g) (decoded-part code offset h d e)
+
+        pub found : (i : Instruction) (n : ℕ) → d ≡ Decoded.Found i n → z ≡ pos n → (form left : List ℕ)
+            → (form ≡ formOf i) × (spelledOf form ≡ Spelled.Is i) → left ≡ sets instruction 0 form → DecodesAt code offset instruction z left
+        found i n f q form left a b =
+            let x : decodedAt code offset instruction ≡ Decoded.Found i n = decoded-here ∙ f in
+            let l : left ≡ formOf i ++ drop formLength instruction =
+                  b ∙ ap (sets instruction 0) (a .0) ∙ put-first instruction (formOf i) formLength (form-length i) g in
+            let s : spelledOf (take formLength left) ≡ Spelled.Is i =
+                  ap (λ (t : List ℕ). spelledOf (take formLength t)) l ∙ ap spelledOf (form-first i instruction ∙ sym (a .0)) ∙ a .1 in
+            record { returns = rw x q; leaves = rw x l; spells = λ j m p. let same : i ≡ j = cc in s ∙ ap Spelled.Is same }
+
+        pub refused : (r : Refusal) → d ≡ Decoded.Refused r → z ≡ refusedBy r → DecodesAt code offset instruction z instruction
+        refused r f = as-refused r (decoded-here ∙ f)

@@ -1,0 +1,23 @@
+use mathlib.Core.List.{[]}
+use lib.Bits.{bitOr}
+use Rattle.isa.specs.Decode.{rowAt}
+use Rattle.isa.specs.Rows.{rows}
+use Rattle.encoding.specs.Write.{ofUnary, over}
+use Rattle.encoding.proofs.Operands.{asD, asA}
+use borrow.Author.Needs.{needs}
+use Rattle.writedata.proofs.word_scan.Statement.{statement}
+use Rattle.writedata.proofs.word_scan.Tie as tie
+
+returns : tie.Need-returns
+unfolding rows
+returns c =
+    let q = c .before .before .before .before .before .before .before in
+    let args = q .before .before .before .args in
+    λ i.
+    over (bitOr (args .x .kept) (args .fixed)) (rowAt 13 .fields)
+    (asD (q .before .of-dst .ensures i)
+    (asA (q .of-src .ensures i)
+    (ofUnary (args .x .operands) [])))
+
+pub word-scan-spec : {M : Type 1} → statement M
+word-scan-spec = tie.close (tie.spec (λ c κs. search needs) (λ c κs. search needs) returns)

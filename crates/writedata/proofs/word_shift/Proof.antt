@@ -1,0 +1,24 @@
+use mathlib.Core.List.{[]}
+use lib.Bits.{bitOr}
+use Rattle.isa.specs.Decode.{rowAt}
+use Rattle.isa.specs.Rows.{rows}
+use Rattle.encoding.specs.Write.{ofBinary, over}
+use Rattle.encoding.proofs.Operands.{asD, asA, asB}
+use borrow.Author.Needs.{needs}
+use Rattle.writedata.proofs.word_shift.Statement.{statement}
+use Rattle.writedata.proofs.word_shift.Tie as tie
+
+returns : tie.Need-returns
+unfolding rows
+returns c =
+    let q = c .before .before .before .before .before .before .before .before .before .before in
+    let args = q .before .before .before .before .args in
+    λ i.
+    over (bitOr (args .x .kept) (args .fixed)) (rowAt 10 .fields)
+    (asD (q .before .before .of-dst .ensures i)
+    (asA (q .before .of-src .ensures i)
+    (asB (q .of-src2 .ensures i)
+    (ofBinary (args .x .operands) []))))
+
+pub word-shift-spec : {M : Type 1} → statement M
+word-shift-spec = tie.close (tie.spec (λ c κs. search needs) (λ c κs. search needs) (λ c κs. search needs) returns)
