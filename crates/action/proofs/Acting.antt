@@ -13,7 +13,7 @@ use Rattle.isa.specs.declared.instruction.Instruction.{Instruction}
 use Rattle.machine.specs.Words.{destinationSize, sourceSize, inputSize}
 use Rattle.machine.specs.Meaning.{meaningOf, none, input, size}
 use Rattle.machine.specs.declared.input.Input.{Input}
-use Rattle.operations.specs.Operation.{Sizes, sizes, anySizes, sizesBy, Sized, SizedBy}
+use Rattle.operations.specs.Operation.{Sizes, sizes, anySizes, sizesBy, Sized}
 use Rattle.action.specs.Acts.{Narrow, Acts, writesBy, sumFor, productFor}
 use Rattle.operations.specs.Action.{meaningBy, Fitting, FittingBy}
 use Rattle.operations.specs.declared.Operation.{Operation}

@@ -1,11 +1,10 @@
 -- The bytes of an answer.
-use mathlib.Core.Path.{_≡_, refl, sym, ap, ap₂, _∙_}
+use mathlib.Core.Path.{_≡_, sym, ap, ap₂, _∙_}
 use mathlib.Core.List.{List, [], _∷_, _++_}
-use Prim.Native.Nat.{ℕ, _+_, _/_, _%_, _≤_, _<_}
+use Prim.Native.Nat.{ℕ, _+_, _/_, _%_, _<_}
 use native.Mathlib.Omega.{arith}
 use lib.ListN.{getD}
 use Rattle.bits.specs.Word.{bytesOf}
-use Rattle.machine.specs.declared.answer.Ending.{Ending}
 use Rattle.machine.specs.declared.answer.Answer.{Answer}
 use Rattle.answers.specs.Run.{endingNumber, refusalNumber, answerBytes}
 

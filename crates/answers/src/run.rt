@@ -1,7 +1,5 @@
 // The answer of a run as 24 bytes.
 ghost use mathlib.Core.Path.{_≡_};
-ghost use mathlib.Core.List.{_++_};
-ghost use Rattle.bits.specs.Word.{bytesOf};
 ghost use Rattle.answers.specs.Run.{endingNumber, refusalNumber, answerBytes};
 
 use machine::answer::Answer;

@@ -8,7 +8,7 @@ use lib.Bits.{bitAnd, and-mask}
 use lib.ListN.{length, take}
 use Rattle.bits.specs.Word.{le, wordOf, ones}
 use Rattle.bits.proofs.Laws.{Bytes, first-bytes}
-use Rattle.isa.specs.Find.{forms, findOf}
+use Rattle.isa.specs.Find.{forms}
 use Rattle.isa.specs.Decode.{readAt, decodedOf, readFound, decodeOf}
 use Rattle.isa.specs.declared.answer.Find.{Find}
 use Rattle.isa.specs.declared.answer.Reading.{Reading}

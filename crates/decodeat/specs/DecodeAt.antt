@@ -2,7 +2,7 @@
 -- form, 48 bytes. Refusal 1 is for an offset above the code length and for a buffer that is too short, before anything is decoded.
 use Prim.Native.Nat.{ℕ}
 use mathlib.Core.Path.{_≡_}
-use mathlib.Core.Bool.{Bool, cond}
+use mathlib.Core.Bool.{cond}
 use mathlib.Core.List.{List, _++_}
 use lib.Dec.{leb}
 use lib.IntN.{ℤ}

@@ -1,6 +1,5 @@
 -- The tables that the loop reads are those of the forms, and so it asks of each form what the definition asks.
-use mathlib.Core.Path.{_≡_, refl, sym, ap, ap₂, _∙_}
-use mathlib.Core.Bool.{Bool}
+use mathlib.Core.Path.{_≡_, sym, ap, _∙_}
 use mathlib.Core.List.{List, map}
 use Prim.Native.Nat.{ℕ}
 use lib.Bits.{bitAnd}

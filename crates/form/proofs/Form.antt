@@ -2,14 +2,13 @@
 use mathlib.Core.Path.{_≡_, refl, sym, ap, _∙_}
 use mathlib.Core.Bool.{Bool, true, false, cond, _&&_}
 use mathlib.Core.List.{List}
-use Prim.Native.Nat.{ℕ, _<_}
+use Prim.Native.Nat.{ℕ}
 use native.Mathlib.Omega.{arith}
 use lib.Dec.{eqb, ltb}
 use lib.ListN.{length}
 use borrow.Author.Tests.{lt-ltb}
 use Rattle.isa.specs.declared.instruction.Instruction.{Instruction}
 use Rattle.isa.proofs.Placed.{kind-within}
-use Rattle.isa.specs.Parts.{partsOf}
 use Rattle.bits.specs.Lists.{eqList}
 use Rattle.bits.proofs.Lists.{eqList-is, eqList-self}
 use Rattle.form.specs.Form.{formOf, spelledBy, spelledOf}

@@ -1,5 +1,5 @@
 -- The byte form of an instruction, as docs/byte-form.md lays it out: 48 bytes, numbers little-endian.
-use Prim.Native.Nat.{ℕ, _-_}
+use Prim.Native.Nat.{ℕ}
 use mathlib.Core.Bool.{cond, _&&_}
 use mathlib.Core.List.{List}
 use lib.Dec.{eqb, ltb}

@@ -1,7 +1,5 @@
 // The byte form of an instruction: 48 bytes for callers in other languages. docs/byte-form.md has the layout.
 ghost use mathlib.Core.Path.{_≡_};
-ghost use lib.ListN.{length};
-ghost use Rattle.bits.specs.Lists.{eqList};
 ghost use Rattle.form.specs.Form.{formOf, spelledOf};
 
 use bits::equal;

@@ -1,5 +1,4 @@
 -- What the code's answer says of the place to go on at.
-use Prim.Native.Nat.{ℕ}
 use Rattle.machine.specs.Step as step
 use Rattle.going.specs.declared.Going.{Going}
 

@@ -1,7 +1,7 @@
 // The results of all threads: written to a destination, or made a mask. What is to be written is made apart, a row of 32 words, so
 // that the compiler sees that what a loop reads is not what it writes.
 ghost use mathlib.Core.Path.{_≡_};
-ghost use Prim.Native.Nat.{_+_, _*_, _/_, _%_, _^_, _≤_, _<_};
+ghost use Prim.Native.Nat.{_+_, _*_, _/_, _%_, _≤_, _<_};
 ghost use lib.ListN.{length};
 ghost use Rattle.isa.specs.declared.operand.Destination.{Destination};
 ghost use Rattle.machine.specs.Lanes.{tab, each, pack};

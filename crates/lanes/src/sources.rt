@@ -1,7 +1,7 @@
 // The sources of all threads, a row of 32 values for each. Each loop makes its row apart and then puts it in place, so that the
 // compiler sees that what it reads is not what it writes.
 ghost use mathlib.Core.Path.{_≡_};
-ghost use Prim.Native.Nat.{ℕ, _+_, _*_, _/_, _%_, _^_, _≤_, _<_};
+ghost use Prim.Native.Nat.{ℕ, _+_, _*_, _/_, _≤_, _<_};
 ghost use lib.ListN.{length, getD, replicate};
 ghost use Rattle.machine.specs.Lanes.{tab};
 ghost use Rattle.machine.specs.Words.{halfOf, pairOf, wordAt, sourceValue, valueOf, sourceSize, inputSize, sourceReach};

@@ -14,7 +14,7 @@ use Rattle.isa.specs.Together.{withDst}
 use Rattle.isa.specs.Decode.{decodeOf}
 use Rattle.walk.specs.Walk.{walkFrom, walkOf, shown, stop, refusal}
 use Rattle.isa.specs.Parts.{partsOf}
-use Rattle.lines.specs.Line.{lineAt, lineOf, endLine}
+use Rattle.lines.specs.Line.{lineAt, endLine}
 use Rattle.listing.specs.Listing.{textOf, listingOf}
 use Rattle.listing.proofs.Apart.{text-same}
 use Rattle.listing.proofs.Seen.{plain, seen}

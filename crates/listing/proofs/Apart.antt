@@ -15,7 +15,7 @@ use Rattle.isa.specs.Parts.{placeOf}
 use Rattle.isa.specs.declared.answer.Refusal.{Refusal}
 use Rattle.isa.specs.declared.instruction.Instruction.{Instruction}
 use Rattle.walk.specs.Walk.{Walk, ended, refused, stepped, shown, refusal}
-use Rattle.lines.specs.Line.{tailAt, lineAt, lineOf, endLine, refusedLine}
+use Rattle.lines.specs.Line.{tailAt, lineAt, endLine, refusedLine}
 use Rattle.hex.specs.Hex.{digit, hexBytes}
 use Rattle.listing.specs.Listing.{textOf}
 use Rattle.bits.proofs.Table.{agree}

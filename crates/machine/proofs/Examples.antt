@@ -1,7 +1,7 @@
 -- The marked bench examples as runs: what each answers, and what it leaves of the registers and of the record room. One list, and one
 -- statement over it. Their decoding and encoding parts stand with the instruction set and with the round trip.
 use mathlib.Core.Path.{_≡_, refl}
-use mathlib.Core.Bool.{Bool, true, false, cond}
+use mathlib.Core.Bool.{cond}
 use mathlib.Core.List.{List, [], _∷_, _++_, map}
 use Prim.Native.Nat.{ℕ, zero, suc, _+_, _*_, _/_, _%_}
 use lib.Dec.{eqb}

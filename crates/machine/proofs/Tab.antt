@@ -1,7 +1,7 @@
 -- Laws of what is made for each lane: lists, and changes one after the other.
-use mathlib.Core.Path.{_≡_, refl, sym, ap, _∙_}
+use mathlib.Core.Path.{_≡_, refl, ap, _∙_}
 use mathlib.Core.List.{List, [], _∷_, _++_, append-assoc, append-nil}
-use Prim.Native.Nat.{ℕ, zero, suc, _+_, _≤_, _<_}
+use Prim.Native.Nat.{ℕ, zero, suc, _+_, _<_}
 use lib.ListN.{length, getD, set, drop, length-append, List·getD-append, drop-of-length-le}
 use lib.Seq.{getD-at, set-at, drop-cons}
 use native.Mathlib.Decide.{decLt}

@@ -1,7 +1,7 @@
 -- Unbounded integers with the operations of document 002's pseudocode, whose values are "Python-style arbitrary-precision
 -- integers"; sign_extend and saturate_integer of its operand descriptions (docs/DECISIONS.md, entry 1).
 use Prim.Native.Nat.{ℕ, _+_, _*_, _-_, _/_, _%_, _^_}
-use mathlib.Core.Bool.{Bool, true, false, cond}
+use mathlib.Core.Bool.{Bool, cond}
 use lib.Dec.{eqb}
 use lib.Bits.{bitAnd, bitOr}
 use lib.IntN.{ℤ, pos, negsuc, negℤ, _+ℤ_, _*ℤ_}

@@ -1,7 +1,7 @@
 -- What is made or done for each of the 32 threads, or lanes: a list of a value each, a change for each in turn, and a mask of a bit
 -- each.
 use Prim.Native.Nat.{ℕ, zero, suc, _+_, _/_, _%_, _^_}
-use mathlib.Core.Bool.{Bool, true, false, cond}
+use mathlib.Core.Bool.{Bool, cond}
 use mathlib.Core.List.{List, [], _∷_, _++_}
 use lib.Dec.{eqb}
 

@@ -4,7 +4,6 @@ use Prim.Native.Nat.{ℕ, _*_}
 use mathlib.Core.List.{List, [], _∷_, _++_}
 use lib.ListN.{length, drop}
 use Rattle.bits.specs.Word.{bytesOf}
-use Rattle.machine.specs.State.{State}
 use Rattle.machine.specs.Step.{Step}
 
 abbrev pub recordBytes : ℕ → ℕ → ℕ → ℕ → ℕ → List ℕ

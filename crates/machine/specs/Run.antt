@@ -1,14 +1,14 @@
 -- A run: the sizes of what is lent, the steps, how it ends and what it leaves. Follows "Sizes of what is lent" and "One run" of the
 -- statement of what to build.
-use Prim.Native.Nat.{ℕ, zero, suc, _+_, _*_, _/_, _%_}
-use mathlib.Core.Bool.{Bool, true, false, cond}
+use Prim.Native.Nat.{ℕ, zero, suc, _*_, _%_}
+use mathlib.Core.Bool.{Bool, cond}
 use mathlib.Core.List.{List, [], _∷_}
 use lib.Dec.{eqb, leb}
 use lib.ListN.{length}
 use Rattle.isa.specs.declared.answer.Refusal.{Refusal}
 use Rattle.machine.specs.Words.{Tables}
 use Rattle.machine.specs.Meaning.{both}
-use Rattle.machine.specs.State.{Threads, State, threadsAt, stateAt}
+use Rattle.machine.specs.State.{State, threadsAt, stateAt}
 use Rattle.machine.specs.Step.{Step, Stepped, accepted, refused, stepOf}
 use Rattle.machine.specs.Record.{roomAfter}
 use Rattle.machine.specs.declared.answer.Ending.{Ending}

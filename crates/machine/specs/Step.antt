@@ -1,7 +1,7 @@
 -- One step of the 32 threads: which instructions are refused, what the others do to registers, mask and address, and their class.
 -- Follows "One step" and "Refusal numbers" of the statement of what to build.
-use Prim.Native.Nat.{ℕ, _+_, _*_, _/_, _%_, _^_, max}
-use mathlib.Core.Bool.{Bool, true, false, cond, not}
+use Prim.Native.Nat.{ℕ, _+_, _*_, _%_, max}
+use mathlib.Core.Bool.{Bool, cond, not}
 use mathlib.Core.List.{List, [], _∷_}
 use lib.Dec.{eqb, leb}
 use lib.ListN.{length, getD, drop}
@@ -16,7 +16,7 @@ use Rattle.isa.specs.declared.instruction.Instruction.{Instruction}
 use Rattle.machine.specs.Integer.{modulo}
 use Rattle.machine.specs.Lanes.{tab, each, activeIn, pack}
 use Rattle.machine.specs.Words.{Tables, valueOf, storeOf, destinationSize, destinationReach, inputReach, specialReach}
-use Rattle.machine.specs.Meaning.{Meaning, writes, masks, jumps, meaningOf, both, none}
+use Rattle.machine.specs.Meaning.{Meaning, writes, masks, jumps, meaningOf, both}
 use Rattle.machine.specs.State.{Threads, State, threadsAt, stateAt}
 use Rattle.machine.specs.declared.input.Input.{Input}
 

@@ -1,14 +1,13 @@
 -- The lent words: what a thread reads of registers, uniforms and special registers, and what it writes of registers. Follows
 -- "Sizes of what is lent" and "One step" of the statement of what to build, and the operand descriptions of document 002 as
 -- docs/DECISIONS.md has them, entry 1.
-use Prim.Native.Nat.{ℕ, _+_, _*_, _/_, _%_, _^_, max}
-use mathlib.Core.Bool.{Bool, true, false, cond}
+use Prim.Native.Nat.{ℕ, _+_, _*_, _/_, _%_, _^_}
+use mathlib.Core.Bool.{cond}
 use mathlib.Core.List.{List}
 use lib.Dec.{eqb}
 use lib.ListN.{getD, set}
 use Rattle.isa.specs.declared.operand.Destination.{Destination}
 use Rattle.isa.specs.declared.operand.Source.{Source}
-use Rattle.isa.specs.declared.operand.Src.{Src}
 use Rattle.machine.specs.declared.input.Input.{Input}
 
 -- ---- bit sizes

@@ -1,6 +1,5 @@
 // The comparison of the numbers of two instructions.
 ghost use mathlib.Core.Path.{_≡_};
-ghost use lib.ListN.{length};
 ghost use Rattle.isa.specs.Parts.{numbersOf};
 ghost use Rattle.bits.specs.Lists.{eqList};
 use bits::equal;

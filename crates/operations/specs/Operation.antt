@@ -1,13 +1,11 @@
 -- What an operation computes from the values of three sources, by the definitions of the machine; and of which operands that is the
 -- definition: the bit sizes beside an operation are those of its operands, and each value is within its size.
 use Prim.Native.Nat.{ℕ, _≤_, _<_, _^_}
-use mathlib.Core.Path.{_≡_}
 use mathlib.Core.List.{List}
 use Rattle.machine.specs.Step.{Result, sourceAt}
 use Rattle.machine.specs.Meaning as meaning
 use Rattle.operations.specs.declared.Sum.{Sum}
 use Rattle.operations.specs.declared.Test.{Test}
-use Rattle.operations.specs.declared.Truth.{Truth}
 use Rattle.operations.specs.declared.Operation.{Operation}
 
 abbrev pub sumOf : Sum → meaning.Sum

@@ -21,7 +21,7 @@ use Rattle.isa.specs.Diagram.{Diagram, Field, widthOf, fixedMask, fixedValue, f
 use Rattle.isa.specs.Rows.{rows}
 use Rattle.isa.specs.Find.{Form, forms, matches, findOf}
 use Rattle.isa.specs.Decode.{rowAt, noDiagram, readAt, decodedOf, readFound, decodeOf}
-use Rattle.isa.specs.Parts.{placeOf, partsOf, lengthBy, lengthFor}
+use Rattle.isa.specs.Parts.{placeOf, lengthBy, lengthFor}
 use Rattle.isa.specs.declared.answer.Find.{Find}
 use Rattle.isa.specs.declared.answer.Reading.{Reading}
 use Rattle.isa.specs.declared.answer.Decoded.{Decoded}

@@ -13,7 +13,7 @@ use Rattle.isa.specs.Decode.{decodeOf}
 use Rattle.isa.specs.declared.answer.Decoded.{Decoded}
 use Rattle.isa.specs.declared.answer.Encoded.{Encoded}
 use Rattle.isa.proofs.Examples.{Example, examples}
-use Rattle.isa.specs.Parts.{partsOf, lengthFor, keptOf}
+use Rattle.isa.specs.Parts.{partsOf, lengthFor}
 use Rattle.encoding.specs.Write.{fieldsFor, wordFor}
 use Rattle.encode.specs.Encode.{accepts, encodedOf, encodingLeft}
 

@@ -1,14 +1,11 @@
 -- The sizes in bytes and in words: when a call is callTaken, and that there is space for its words.
-use mathlib.Core.Path.{_≡_, refl, sym, ap, _∙_}
+use mathlib.Core.Path.{_≡_, sym, _∙_}
 use mathlib.Core.Bool.{Bool, true, false, not}
-use mathlib.Core.List.{List}
-use Prim.Native.Nat.{ℕ, _*_, _/_, _%_, _≤_}
+use Prim.Native.Nat.{ℕ, _/_, _%_, _≤_}
 use native.Mathlib.Omega.{arith}
 use borrow.Author.Tests.{eqb-true, leb-true, not-false, not-true}
-use lib.Dec.{eqb, leb}
 use lib.ListN.{length}
 use Rattle.isa.specs.declared.answer.Refusal.{Refusal}
-use Rattle.machine.specs.Meaning.{both}
 use Rattle.machine.specs.Run.{arranged}
 use Rattle.machine.specs.declared.answer.Ending.{Ending}
 use Rattle.machine.proofs.Sizes.{parts, sizes}

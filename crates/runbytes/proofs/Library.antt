@@ -1,21 +1,20 @@
 -- Where the bytes spell words and the answer has room, the run on bytes is the run on the words in every case, also where that refuses
 -- the call with 1: how it ended, the registers, the records.
 use mathlib.Core.Path.{_≡_, refl, sym, ap, _∙_}
-use mathlib.Core.Bool.{Bool, true, false, cond}
+use mathlib.Core.Bool.{Bool, true, false}
 use mathlib.Core.List.{List}
-use Prim.Native.Nat.{ℕ, _*_, _/_, _%_}
+use Prim.Native.Nat.{ℕ, _/_, _%_}
 use native.Mathlib.Omega.{arith}
 use borrow.Author.Tests.{eqb-true}
 use lib.ListN.{length}
 use Rattle.bits.proofs.Laws.{Bytes}
-use Rattle.machine.specs.Run.{Run, arranged, runOf, answerOf, registersLeft, recordsLeft}
-use Rattle.machine.specs.declared.answer.Ending.{Ending}
+use Rattle.machine.specs.Run.{arranged, runOf, answerOf, registersLeft, recordsLeft}
 use Rattle.machine.proofs.Runs.{badly-arranged}
 use Rattle.machine.proofs.Records.{nothing-written}
 use Rattle.machine.proofs.Sizes.{parts}
-use Rattle.words.specs.Spelling.{wordsOf, bytesFor}
+use Rattle.words.specs.Spelling.{bytesFor}
 use Rattle.words.proofs.Laws.{bytes-words}
-use Rattle.runbytes.specs.RunBytes.{Lent, spelledCall, spelled, callTaken, endingOf, Leaves}
+use Rattle.runbytes.specs.RunBytes.{Lent, spelledCall, spelled, endingOf, Leaves}
 use Rattle.sizes.specs.Lent.{wholeWords}
 
 module _ (l : Lent) (s : spelled l ≡ true) where

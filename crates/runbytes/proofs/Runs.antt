@@ -2,10 +2,8 @@
 use mathlib.Core.Path.{_≡_, refl, ap, _∙_}
 use mathlib.Core.List.{List, _++_}
 use Prim.Native.Nat.{ℕ}
-use lib.ListN.{length, drop}
+use lib.ListN.{drop}
 use lib.Seq.{sets}
-use Rattle.machine.specs.Run.{runOf, answerOf}
-use Rattle.machine.specs.declared.answer.Ending.{Ending}
 use Rattle.machine.specs.declared.answer.Answer.{Answer}
 use Rattle.run.specs.Ran as library
 use Rattle.words.specs.Spelling.{wordsOf, bytesFor}

@@ -10,7 +10,6 @@ use Rattle.isa.specs.declared.answer.Refusal.{Refusal}
 use Rattle.machine.specs.Meaning.{both}
 use Rattle.machine.specs.Run.{Call, arranged, runOf, answerOf, registersLeft, recordsLeft}
 use Rattle.machine.specs.declared.answer.Ending.{Ending}
-use Rattle.machine.specs.declared.answer.Answer.{Answer}
 use Rattle.answers.specs.Run.{answerBytes}
 use Rattle.sizes.specs.Lent.{answerLength, spelledBy}
 use Rattle.words.specs.Spelling.{wordsOf, bytesFor}

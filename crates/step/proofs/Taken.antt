@@ -1,5 +1,5 @@
 -- The cases of a step.
-use mathlib.Core.Path.{_≡_, refl, sym, ap, _∙_, subst}
+use mathlib.Core.Path.{_≡_, refl, ap, _∙_}
 use mathlib.Core.Bool.{Bool, true, false, cond}
 use mathlib.Core.List.{List}
 use Prim.Native.Nat.{ℕ, _*_, _-_, _/_, _≤_, _<_}
@@ -15,9 +15,9 @@ use Rattle.isa.specs.declared.answer.Decoded.{Decoded}
 use Rattle.isa.specs.declared.instruction.Instruction.{Instruction}
 use Rattle.machine.specs.Words.{Tables}
 use Rattle.machine.specs.Meaning.{Meaning, meaningOf}
-use Rattle.machine.specs.State.{Threads, State}
+use Rattle.machine.specs.State.{State}
 use Rattle.machine.specs.Step.{Going, to, nowhere, refused, registersReach, specialsReach, goingOf, goTo, threadsAfter, stepBy, stepOf}
-use Rattle.step.specs.Told.{Told, goes, stops, toldBy, goneTo, takenBy}
+use Rattle.step.specs.Told.{Told, stops, toldBy, goneTo, takenBy}
 
 module _ (m : Meaning) (bytes size : ℕ) (tables : Tables) (s : State) where
   pub no-register : length (s .threads .registers) / 32 < registersReach m

@@ -1,6 +1,6 @@
 -- What the code tells of a step: all of it but the instruction, which is the definition's.
 use Prim.Native.Nat.{ℕ, _*_}
-use mathlib.Core.Bool.{Bool, true, false, cond}
+use mathlib.Core.Bool.{cond}
 use mathlib.Core.List.{List}
 use lib.Dec.{leb}
 use lib.ListN.{length}
@@ -8,7 +8,7 @@ use Rattle.isa.specs.declared.answer.Refusal.{Refusal}
 use Rattle.machine.specs.Words.{Tables}
 use Rattle.machine.specs.Meaning.{Meaning}
 use Rattle.machine.specs.State.{Threads, State, threadsAt, stateAt}
-use Rattle.machine.specs.Step.{Going, to, nowhere, Step, Stepped, accepted, refused, registersReach, specialsReach, goingOf, threadsAfter}
+use Rattle.machine.specs.Step.{Going, to, nowhere, Stepped, accepted, refused, registersReach, specialsReach, goingOf, threadsAfter}
 use Rattle.step.specs.declared.Turn.{Turn}
 
 -- the length of the instruction, the class and the state after an accepted step; of a refused one the registers, as they were

@@ -1,12 +1,12 @@
 -- Laws of words and the bytes that spell them, and the steps of filling the one from the other.
-use mathlib.Core.Path.{_≡_, refl, sym, ap, ap₂, _∙_}
+use mathlib.Core.Path.{_≡_, refl, ap, ap₂, _∙_}
 use mathlib.Core.List.{List, [], _∷_, _++_, append-nil}
-use Prim.Native.Nat.{ℕ, zero, suc, _+_, _*_, _/_, _%_, _^_, _≤_, _<_}
+use Prim.Native.Nat.{ℕ, zero, suc, _+_, _*_, _/_, _<_}
 use native.Mathlib.Omega.{arith}
-use lib.ListN.{length, getD, take, drop, set, drop-of-length-le, length-append}
+use lib.ListN.{length, getD, drop, set, drop-of-length-le, length-append}
 use lib.Seq.{sets, sets-eq, drop-cons}
 use Rattle.bits.specs.Word.{le, bytesOf}
-use Rattle.bits.proofs.Laws.{Bytes, bytes-le, le-bytes, length-bytesOf}
+use Rattle.bits.proofs.Laws.{Bytes, bytes-le}
 use Rattle.words.specs.Spelling.{wordsOf, bytesFor}
 
 pub length-words : (s : List ℕ) → length (wordsOf s) ≡ length s / 4

@@ -5,7 +5,6 @@ use native.Mathlib.Nat.{mod-eq-of-lt}
 use native.Mathlib.Omega.{arith}
 use Rattle.machine.specs.Integer.{modulo}
 use Rattle.machine.specs.Meaning.{mov, getSr}
-use Rattle.operations.specs.Operation.{SizedBy, ValuesWithin}
 use Rattle.alu.proofs.result.Statement.{statement}
 use Rattle.alu.proofs.result.Tie as tie
 

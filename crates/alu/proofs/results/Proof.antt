@@ -1,10 +1,9 @@
 use native.Mathlib.Omega.{arith}
 use mathlib.Core.Path.{_≡_, ap, _∙_}
 use mathlib.Core.List.{List}
-use Prim.Native.Nat.{ℕ, _-_, _≤_, _<_}
+use Prim.Native.Nat.{ℕ, _-_, _≤_}
 use lib.ListN.{length, set}
 use denote.Ref.{now}
-use Rattle.machine.specs.Step.{sourceAt}
 use Rattle.machine.proofs.Tab.{filled, filled-none, filled-more, filled-all}
 use Rattle.alu.specs.Results.{resultAt}
 use Rattle.alu.proofs.results.Statement.{statement}

@@ -1,10 +1,9 @@
 -- Address, bytes and the end of the line, put one after the other, are the line.
-use mathlib.Core.Path.{_≡_, refl, ap, _∙_}
+use mathlib.Core.Path.{refl, _∙_}
 use mathlib.Core.List.{_++_}
-use Prim.Native.Nat.{ℕ, _+_, _*_}
+use Prim.Native.Nat.{_+_, _*_}
 use native.Mathlib.Omega.{arith}
 use lib.ListN.{length}
-use lib.Seq.{sets}
 use Rattle.isa.specs.Text.{ascii}
 use Rattle.lines.specs.Line.{tailAt, lineAt}
 use Rattle.hex.specs.Hex.{hexAddress, hexBytes}

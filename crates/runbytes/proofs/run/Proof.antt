@@ -1,7 +1,5 @@
 use borrow.Author.Needs.{needs}
 use mathlib.Core.Path.{refl, sym}
-use native.Mathlib.Omega.{arith}
-use lib.ListN.{length}
 use lib.Seq.{length-take-le}
 use Rattle.runbytes.specs.RunBytes.{Lent, lentOf}
 use Rattle.runbytes.proofs.Lengths.{Known, not-spelled, not-arranged, is-known}

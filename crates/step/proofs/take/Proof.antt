@@ -1,13 +1,12 @@
 use borrow.Author.Needs.{needs}
-use mathlib.Core.Path.{_≡_, sym, ap, _∙_}
-use Prim.Native.Nat.{ℕ, _/_, _≤_, _<_}
+use mathlib.Core.Path.{sym, ap, _∙_}
+use Prim.Native.Nat.{_/_, _≤_, _<_}
 use native.Mathlib.Omega.{arith}
 use lib.ListN.{length}
 use denote.Ref.{now}
 use Rattle.machine.specs.State.{Threads, threadsAt, stateAt}
-use Rattle.machine.specs.Step.{registersReach, specialsReach, to, nowhere}
+use Rattle.machine.specs.Step.{registersReach, specialsReach}
 use Rattle.operations.specs.Action.{meaningBy}
-use Rattle.going.specs.declared.Going.{Going}
 use Rattle.going.specs.AsGoing.{asGoing}
 use Rattle.lanes.specs.Sources.{lent}
 use Rattle.step.specs.Told.{goes}

@@ -1,11 +1,10 @@
 -- The words still to come, put after those that stand there, make all the words.
 use mathlib.Core.Path.{_≡_, refl, sym, ap, _∙_}
 use mathlib.Core.List.{List, [], _∷_}
-use Prim.Native.Nat.{ℕ, _+_, _*_, _-_, _/_, _≤_}
+use Prim.Native.Nat.{ℕ, _+_, _*_, _-_, _≤_}
 use native.Mathlib.Omega.{arith}
-use lib.ListN.{length, getD, drop, set, length-set, drop-of-length-le}
+use lib.ListN.{length, drop, set, length-set, drop-of-length-le}
 use lib.Seq.{sets}
-use Rattle.bits.specs.Word.{le}
 use Rattle.bits.proofs.Pieces.{after}
 use Rattle.words.specs.Spelling.{wordsOf}
 use Rattle.words.proofs.Laws.{length-words, word-next, filled}
