@@ -1,6 +1,6 @@
 -- The comparison of two lists of numbers says whether they are equal.
-use mathlib.Core.Path.{_≡_, refl, ap₂}
-use mathlib.Core.Bool.{true, _&&_}
+use mathlib.Core.Path.{_≡_, refl, sym, ap₂, _∙_}
+use mathlib.Core.Bool.{true, false, _&&_}
 use mathlib.Core.List.{List, [], _∷_}
 use Prim.Native.Nat.{ℕ, _+_, _≤_, _<_}
 use native.Mathlib.Numerals.{add-one}
@@ -8,7 +8,7 @@ use native.Mathlib.Omega.{arith}
 use lib.Dec.{eqb}
 use lib.ListN.{length, getD, drop, drop-of-length-le}
 use lib.Seq.{drop-cons}
-use borrow.Author.Tests.{eqb-true, eq-eqb}
+use borrow.Author.Tests.{eqb-true, eq-eqb, ne-eqb}
 use Rattle.bits.proofs.Table.{and-left, and-right}
 use Rattle.bits.specs.Lists.{eqList}
 
@@ -24,11 +24,22 @@ pub eqList-self : (a : List ℕ) → eqList a a ≡ true
 eqList-self [] = refl
 eqList-self (x ∷ xs) = rw (eq-eqb x x refl) (eqList-self xs)
 
--- ---- a step and the end of the loop
+-- ---- the turns of a loop over two lists, whatever the width of their numbers
 
-pub eq-step : (a b : List ℕ) (i : ℕ) → i < length a → i < length b
-    → eqList (drop i a) (drop i b) ≡ (eqb (getD a i 0) (getD b i 0) && eqList (drop (i + 1) a) (drop (i + 1) b))
-eq-step a b i h g = rw (add-one i) (ap₂ eqList (drop-cons a i 0 h) (drop-cons b i 0 g))
+-- from i on they are equal exactly where all is
+abbrev pub SoFar : List ℕ → List ℕ → ℕ → Type 0
+SoFar a b i = (i ≤ length a) × (eqList (drop i a) (drop i b) ≡ eqList a b)
 
-pub eq-end : (a b : List ℕ) (i : ℕ) → length a ≤ i → length b ≤ i → eqList (drop i a) (drop i b) ≡ true
-eq-end a b i h g = ap₂ eqList (drop-of-length-le a h) (drop-of-length-le b g)
+module _ (a b : List ℕ) (i : ℕ) (so-far : SoFar a b i) where
+  step : i < length a → i < length b
+      → eqList (drop i a) (drop i b) ≡ (eqb (getD a i 0) (getD b i 0) && eqList (drop (i + 1) a) (drop (i + 1) b))
+  step h g = rw (add-one i) (ap₂ eqList (drop-cons a i 0 h) (drop-cons b i 0 g))
+
+  pub unequal-at : i < length a → i < length b → (getD a i 0 ≡ getD b i 0 → ⊥) → false ≡ eqList a b
+  unequal-at h g e = sym (step h g ∙ simp (ne-eqb (getD a i 0) (getD b i 0) e)) ∙ so-far .1
+
+  pub equal-at : i < length a → i < length b → getD a i 0 ≡ getD b i 0 → eqList (drop (i + 1) a) (drop (i + 1) b) ≡ eqList a b
+  equal-at h g e = sym (step h g ∙ simp (eq-eqb (getD a i 0) (getD b i 0) e)) ∙ so-far .1
+
+  pub equal-end : length a ≤ i → length b ≤ i → true ≡ eqList a b
+  equal-end h g = sym (ap₂ eqList (drop-of-length-le a h) (drop-of-length-le b g)) ∙ so-far .1

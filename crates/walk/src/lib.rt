@@ -7,7 +7,7 @@ ghost use Rattle.walk.specs.Walk.{standsAt};
 use isa::answer::Decoded;
 use isa::answer::Refusal;
 
-// The most bytes that a kernel may have.
+// The most bytes that a walk takes.
 pub const LIMIT: usize = 8192;
 
 pub fn decoded_at(code: &[u8], at: usize) -> Decoded
