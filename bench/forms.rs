@@ -107,11 +107,19 @@ fn eight_comes_before_nine() {
 }
 
 #[test]
-fn decoding_looks_at_offset_and_room_first() {
+fn a_short_buffer_is_refused_only_where_there_is_a_form_to_write() {
+    const NO_MEANING: [u8; 4] = [0x72, 0x0B, 0x05, 0x00];
     let mut form = [OLD; FORM_BYTES];
-    assert_eq!(decode(&IADD, 9, &mut form), -1);
-    assert_eq!(decode(&[0x88, 0x00], 0, &mut form[..47]), -1);
-    assert_eq!(decode(&IADD, 8, &mut form), -2);
-    assert_eq!(decode(&[0x88, 0x00], 0, &mut form), -3);
+    for room in [0, 47, 48] {
+        let form = &mut form[..room];
+        assert_eq!(decode(&IADD, 9, form), -1);
+        assert_eq!(decode(&IADD, 8, form), -2);
+        assert_eq!(decode(&IADD[..7], 0, form), -2);
+        assert_eq!(decode(&[0x88, 0x00], 0, form), -3);
+        assert_eq!(decode(&NO_MEANING, 0, form), -4);
+    }
+    assert_eq!(decode(&IADD, 0, &mut form[..0]), -1);
+    assert_eq!(decode(&IADD, 0, &mut form[..47]), -1);
     assert_eq!(form, [OLD; FORM_BYTES]);
+    assert_eq!(decode(&IADD, 0, &mut form), 8);
 }

@@ -9,8 +9,9 @@
  * - An answer below 0 is minus a refusal number (enum reedtassel_refusal), and the lowest that applies is given.
  * - A buffer is lent as a pointer and its length in bytes. Numbers in it are little-endian, and it may stand at any
  *   address. The structs below have the layout of the bytes; lend one as (uint8_t *)&it, sizeof it.
- * - The caller answers for the pointers: each has as many bytes as its length says, and may be NULL where that is 0. A
- *   buffer that is written must not overlap another that is lent in the same call.
+ * - Sizes are checked, pointers can't be. The caller answers for them: each has as many bytes as its length says, and
+ *   may be NULL where that is 0. A buffer that is written must not overlap another that is lent in the same call.
+ * - During a call nothing else may write to a lent buffer, nor read one that the call writes.
  * - Nothing outside the lent buffers is read or written, and every call returns, whatever stands in them.
  * - No state is kept and no memory is allocated: calls on different buffers may be made at the same time. Code and
  *   tables that are only read may be shared. A run takes about 60 KB of stack, the others less.
@@ -167,11 +168,11 @@ typedef char reedtassel_record_is_16_bytes[sizeof(struct reedtassel_record) == R
  *
  * Above 0: the length of the instruction, 4, 6 or 8. Its byte form is written to the first 48 bytes of `instruction`,
  * and nothing after them.
- * -1: offset is above code_len, or instruction_len below 48, whatever the code is.
+ * -1: offset is above code_len; or the instruction was decoded, and instruction_len is below 48.
  * -2: the code ends inside the instruction; also where offset is code_len.
  * -3: no instruction that is built has these bytes.
  * -4: an operand or a condition has no meaning.
- * Refused, nothing is written.
+ * Refused, nothing is written. With -2, -3 and -4 nothing was to be written: they are given for a shorter buffer, too.
  */
 int32_t reedtassel_decode(const uint8_t *code, size_t code_len, size_t offset, uint8_t *instruction,
                           size_t instruction_len);

@@ -21,17 +21,19 @@ pub struct Call<'a> {
     pub answer: &'a mut [u8],
 }
 
-/// Decodes the instruction at `offset`: its length, with its form at the start of `instruction`, or minus a refusal.
+/// Decodes the instruction at `offset`: its length, with its form at the start of `instruction`, or minus a refusal. A buffer is too
+/// short only where there is a form to write.
 pub fn decode(code: &[u8], offset: usize, instruction: &mut [u8]) -> i32 {
-    if offset > code.len() || instruction.len() < FORM_BYTES {
+    if offset > code.len() {
         return -1;
     }
     match decoded(&code[offset..]) {
+        Err(refusal) => -(refusal as i32),
+        Ok(_) if instruction.len() < FORM_BYTES => -1,
         Ok(found) => {
             instruction[..FORM_BYTES].copy_from_slice(&Fields::of(&found).to_bytes());
             found.length as i32
         }
-        Err(refusal) => -(refusal as i32),
     }
 }
 

@@ -4,6 +4,7 @@ use crate::exported;
 use crate::guarded::{Access, Guarded};
 use crate::instructions::{any_bytes, WORDS};
 use crate::plain::calls;
+use crate::plain::form::FORM_BYTES;
 use crate::random::Random;
 use crate::report::{both, hex, Report};
 
@@ -22,14 +23,21 @@ struct Decoding {
     instruction: Guarded,
     refused: [u64; 5],
     decoded: [u64; 23],
+    /// With an offset in the code and a buffer below 48 bytes, by the number of the refusal.
+    short: [u64; 5],
 }
 
 pub fn compare(report: &mut Report, seed: u64, cases: u64) {
     let (code, instruction) = (Guarded::new(MOST_CODE, Access::ReadOnly), Guarded::new(128, Access::Writable));
-    let mut decoding = Decoding { code, instruction, refused: [0; 5], decoded: [0; 23] };
+    let mut decoding = Decoding { code, instruction, refused: [0; 5], decoded: [0; 23], short: [0; 5] };
     report.compare("decode", cases, |number| decoding.one(&mut Random::of_case(seed, GROUP, number)));
     for number in 1..decoding.refused.len() {
         report.happened(&format!("decode refused {number}"), decoding.refused[number]);
+    }
+    report.happened("decode refused 1 for an offset above the code length", decoding.refused[1] - decoding.short[1]);
+    report.happened("decode refused 1 for an instruction and a short buffer", decoding.short[1]);
+    for number in 2..decoding.short.len() {
+        report.happened(&format!("decode refused {number}, with a short buffer too"), decoding.short[number]);
     }
     for (word, times) in WORDS.iter().zip(&decoding.decoded[1..]) {
         report.happened(&format!("decoded {word}"), *times);
@@ -48,6 +56,9 @@ impl Decoding {
         match want {
             1.. => self.decoded[wanted[0] as usize] += 1,
             _ => self.refused[-want as usize] += 1,
+        }
+        if offset <= code.len() && instruction.len() < FORM_BYTES {
+            self.short[-want as usize] += 1;
         }
         let intact = self.code.intact() && self.instruction.intact();
         if got == want && self.instruction.left() == wanted && intact {

@@ -5,10 +5,12 @@ use crate::plain::calls::ANSWER_BYTES;
 use crate::report::Report;
 use std::ptr::{null, null_mut};
 
-/// The form of `62 04 34 12`.
+const MOV16: [u8; 4] = [0x62, 0x04, 0x34, 0x12];
+
+/// Its byte form.
 fn mov16() -> [u8; 48] {
     let mut form = [0; 48];
-    crate::plain::calls::decode(&[0x62, 0x04, 0x34, 0x12], 0, &mut form);
+    crate::plain::calls::decode(&MOV16, 0, &mut form);
     form
 }
 
@@ -29,7 +31,7 @@ fn run_of_nothing() -> i32 {
 }
 
 pub fn compare(report: &mut Report) {
-    let form = mov16();
+    let (code, form) = (MOV16.as_ptr(), mov16());
     let mut room = [0u8; 48];
     let (of_form, to) = (form.as_ptr(), room.as_mut_ptr());
     // NULL comes with length 0 alone
@@ -37,8 +39,9 @@ pub fn compare(report: &mut Report) {
         [
             ("decode, no code", reedtassel_decode(null(), 0, 0, to, 48), -2),
             ("decode, no code, an offset", reedtassel_decode(null(), 0, 1, to, 48), -1),
-            ("decode, no code and no buffer", reedtassel_decode(null(), 0, 0, null_mut(), 0), -1),
-            ("decode, no buffer", reedtassel_decode(of_form, 48, 0, null_mut(), 0), -1),
+            ("decode, no code and no buffer", reedtassel_decode(null(), 0, 0, null_mut(), 0), -2),
+            ("decode, no code, an offset and no buffer", reedtassel_decode(null(), 0, 1, null_mut(), 0), -1),
+            ("decode, no buffer", reedtassel_decode(code, MOV16.len(), 0, null_mut(), 0), -1),
             ("encode, no form", reedtassel_encode(null(), 0, to, 48), -8),
             ("encode, no form and no buffer", reedtassel_encode(null(), 0, null_mut(), 0), -8),
             ("encode, no buffer", reedtassel_encode(of_form, 48, null_mut(), 0), -9),

@@ -28,7 +28,6 @@ pub fn decode(code: &[u8]) -> Decoded
             let r = reading::read(place, w & table::ones_of(n));
             decoded(r, n)
         }
-        Find::CutShort => Decoded::Refused(Refusal::CutShort),
-        Find::NoDiagram => Decoded::Refused(Refusal::NoDiagram),
+        Find::Refused(r) => Decoded::Refused(r),
     }
 }

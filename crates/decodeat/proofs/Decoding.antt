@@ -10,6 +10,7 @@ use lib.IntN.{ℤ, pos}
 use lib.ListN.{length, take, drop, length-drop}
 use lib.Seq.{sets, take-all, take-at}
 use Rattle.isa.specs.Decode.{decodeOf}
+use Rattle.isa.specs.Refusal.{refusal}
 use Rattle.isa.specs.declared.answer.Refusal.{Refusal}
 use Rattle.isa.specs.declared.answer.Decoded.{Decoded}
 use Rattle.isa.specs.declared.instruction.Instruction.{Instruction}
@@ -17,10 +18,9 @@ use Rattle.isa.proofs.Found.{found-length}
 use Rattle.form.specs.Form.{formOf, spelledOf}
 use Rattle.form.specs.declared.Spelled.{Spelled}
 use Rattle.form.proofs.Form.{form-length}
-use Rattle.machine.specs.Meaning.{both}
 use Rattle.bits.proofs.Pieces.{put-first}
 use Rattle.answers.specs.Returned.{refusedBy}
-use Rattle.decodeat.specs.DecodeAt.{formLength, decodedAt, DecodesAt}
+use Rattle.decodeat.specs.DecodeAt.{formLength, withRoom, decodedAt, DecodesAt}
 
 -- the part of the code that is decoded is all from the offset on
 module _ (code : List ℕ) (offset : ℕ) (h : offset ≤ length code) (d : Decoded)
@@ -40,12 +40,23 @@ module _ (code : List ℕ) (offset : ℕ) (instruction : List ℕ) where
   -- what is decoded is at the offset
   pub decoded-there : (i : Instruction) (n : ℕ) → decodedAt code offset instruction ≡ Decoded.Found i n → decodeOf (drop offset code) ≡ Decoded.Found i n
   unfolding decodedAt
-  decoded-there i n e = go (both (leb offset (length code)) (leb formLength (length instruction))) e
+  decoded-there i n e = go (leb offset (length code)) (decodeOf (drop offset code)) e
     where
-      go : (b : Bool) → cond b (decodeOf (drop offset code)) (Decoded.Refused Refusal.BadSize) ≡ Decoded.Found i n
-          → decodeOf (drop offset code) ≡ Decoded.Found i n
-      go true q = q
-      go false q = let z : _≡_ {A = ℕ} 0 1 = cc in absurd (omega arith)
+      roomy : (b : Bool) (d : Decoded) → cond b d (Decoded.Refused (refusal 1)) ≡ Decoded.Found i n → d ≡ Decoded.Found i n
+      roomy true d q = q
+      roomy false d q = let z : _≡_ {A = ℕ} 0 1 = cc in absurd (omega arith)
+
+      go : (b : Bool) (d : Decoded) → cond b (withRoom d (length instruction)) (Decoded.Refused (refusal 1)) ≡ Decoded.Found i n
+          → d ≡ Decoded.Found i n
+      go true (Decoded.Found j m) q = roomy (leb formLength (length instruction)) (Decoded.Found j m) q
+      go true (Decoded.Refused r) q = q
+      go false d q = let z : _≡_ {A = ℕ} 0 1 = cc in absurd (omega arith)
+
+  -- what is at the offset is decoded, where there is room for its byte form
+  pub decoded-whole : (i : Instruction) (n : ℕ) → offset ≤ length code → formLength ≤ length instruction
+      → decodeOf (drop offset code) ≡ Decoded.Found i n → decodedAt code offset instruction ≡ Decoded.Found i n
+  unfolding decodedAt
+  decoded-whole i n h g e = rw (le-leb offset (length code) h, e, le-leb formLength (length instruction) g)
 
   module _ (z : ℤ) where
     as-refused : (r : Refusal) → decodedAt code offset instruction ≡ Decoded.Refused r → z ≡ refusedBy r
@@ -58,32 +69,32 @@ module _ (code : List ℕ) (offset : ℕ) (instruction : List ℕ) where
         }
 
     -- the offset is above the code length
-    pub past-the-code : length code < offset → z ≡ refusedBy Refusal.BadSize → DecodesAt code offset instruction z instruction
+    pub past-the-code : length code < offset → z ≡ refusedBy (refusal 1) → DecodesAt code offset instruction z instruction
     unfolding decodedAt
-    past-the-code h = as-refused Refusal.BadSize (rw (lt-leb offset (length code) h))
+    past-the-code h = as-refused (refusal 1) (rw (lt-leb offset (length code) h))
 
-    module _ (h : offset ≤ length code) where
-      -- the buffer is too short
-      pub no-room : length instruction < formLength → z ≡ refusedBy Refusal.BadSize → DecodesAt code offset instruction z instruction
+    module _ (h : offset ≤ length code) (d : Decoded) (e : d ≡ decodeOf (take (length code - offset) (drop offset code))) where
+      decoded-here : decodedAt code offset instruction ≡ withRoom d (length instruction)
       unfolding decodedAt
-      no-room g =
-          as-refused Refusal.BadSize (rw (le-leb offset (length code) h, lt-leb formLength (length instruction) g))
+      decoded-here = rw (le-leb offset (length code) h, decoded-part code offset h d e)
 
-      module _ (d : Decoded) (e : d ≡ decodeOf (take (length code - offset) (drop offset code))) (g : formLength ≤ length instruction) where
-        decoded-here : decodedAt code offset instruction ≡ d
-        unfolding decodedAt
-        decoded-here =
-            rw (le-leb offset (length code) h, le-leb formLength (length instruction) g) (decoded-part code offset h d e)
+      pub refused : (r : Refusal) → d ≡ Decoded.Refused r → z ≡ refusedBy r → DecodesAt code offset instruction z instruction
+      refused r f = as-refused r (decoded-here ∙ ap (λ (x : Decoded). withRoom x (length instruction)) f)
 
-        pub found : (i : Instruction) (n : ℕ) → d ≡ Decoded.Found i n → z ≡ pos n → (form left : List ℕ)
+      module _ (i : Instruction) (n : ℕ) (f : d ≡ Decoded.Found i n) where
+        with-room : decodedAt code offset instruction ≡ withRoom (Decoded.Found i n) (length instruction)
+        with-room = decoded-here ∙ ap (λ (x : Decoded). withRoom x (length instruction)) f
+
+        -- the buffer is too short for the byte form
+        pub no-room : length instruction < formLength → z ≡ refusedBy (refusal 1) → DecodesAt code offset instruction z instruction
+        no-room g = as-refused (refusal 1) (with-room ∙ rw (lt-leb formLength (length instruction) g))
+
+        pub found : formLength ≤ length instruction → z ≡ pos n → (form left : List ℕ)
             → (form ≡ formOf i) × (spelledOf form ≡ Spelled.Is i) → left ≡ sets instruction 0 form → DecodesAt code offset instruction z left
-        found i n f q form left a b =
-            let x : decodedAt code offset instruction ≡ Decoded.Found i n = decoded-here ∙ f in
+        found g q form left a b =
+            let x : decodedAt code offset instruction ≡ Decoded.Found i n = with-room ∙ rw (le-leb formLength (length instruction) g) in
             let l : left ≡ formOf i ++ drop formLength instruction =
                   b ∙ ap (sets instruction 0) (a .0) ∙ put-first instruction (formOf i) formLength (form-length i) g in
             let s : spelledOf (take formLength left) ≡ Spelled.Is i =
                   ap (λ (t : List ℕ). spelledOf (take formLength t)) l ∙ ap spelledOf (form-first i instruction ∙ sym (a .0)) ∙ a .1 in
             record { returns = rw x q; leaves = rw x l; spells = λ j m p. let same : i ≡ j = cc in s ∙ ap Spelled.Is same }
-
-        pub refused : (r : Refusal) → d ≡ Decoded.Refused r → z ≡ refusedBy r → DecodesAt code offset instruction z instruction
-        refused r f = as-refused r (decoded-here ∙ f)

@@ -1,5 +1,6 @@
 -- Decoding at an offset, reedtassel_decode of docs/c-interface.md: what it returns and leaves. A decoded instruction crosses in its byte
--- form, 48 bytes. Refusal 1 is for an offset above the code length and for a buffer that is too short, before anything is decoded.
+-- form, 48 bytes. Refusal 1 is for an offset above the code length, and for a buffer that is too short for a byte form that is to be
+-- written; where decoding refuses, nothing is.
 use Prim.Native.Nat.{ℕ}
 use mathlib.Core.Path.{_≡_}
 use mathlib.Core.Bool.{cond}
@@ -8,23 +9,27 @@ use lib.Dec.{leb}
 use lib.IntN.{ℤ}
 use lib.ListN.{length, take, drop}
 use Rattle.isa.specs.Decode.{decodeOf}
-use Rattle.isa.specs.declared.answer.Refusal.{Refusal}
+use Rattle.isa.specs.Refusal.{refusal}
 use Rattle.isa.specs.declared.answer.Decoded.{Decoded}
 use Rattle.isa.specs.declared.instruction.Instruction.{Instruction}
 use Rattle.form.specs.Form.{formOf, spelledOf}
 use Rattle.form.specs.declared.Spelled.{Spelled}
-use Rattle.machine.specs.Meaning.{both}
 use Rattle.answers.specs.Returned.{decodedBy}
 
 -- the number of bytes of a byte form
 abbrev pub formLength : ℕ
 formLength = 48
 
+-- what was decoded, where there is room for its byte form
+abbrev pub withRoom : Decoded → ℕ → Decoded
+withRoom (Decoded.Found i n) room = cond (leb formLength room) (Decoded.Found i n) (Decoded.Refused (refusal 1))
+withRoom (Decoded.Refused r) room = Decoded.Refused r
+
 unfoldable pub decodedAt : List ℕ → ℕ → List ℕ → Decoded
 decodedAt code offset instruction =
-    cond (both (leb offset (length code)) (leb formLength (length instruction)))
-    (decodeOf (drop offset code))
-    (Decoded.Refused Refusal.BadSize)
+    cond (leb offset (length code))
+    (withRoom (decodeOf (drop offset code)) (length instruction))
+    (Decoded.Refused (refusal 1))
 
 -- the byte form at the start of the buffer; refused, the buffer is untouched
 abbrev pub formLeft : Decoded → List ℕ → List ℕ

@@ -6,18 +6,19 @@ use bits::piece;
 use isa::answer::Decoded;
 use isa::answer::Refusal;
 
-// The instruction at a byte of the code, in its byte form, and its length; below 0, minus a refusal's number. Refused, nothing is written.
+// The instruction at a byte of the code, in its byte form, and its length; below 0, minus a refusal's number. Refused, nothing is written;
+// room is needed only for a byte form that is to be written.
 pub fn decode_at(code: &[u8], offset: usize, instruction: &mut [u8]) -> i32
     ensures { λ r. ⌜ DecodesAt (now (code .entry)) offset (now (instruction .entry)) r (now (instruction .exit)) ⌝ }
 {
     if code.len() < offset {
         return returned::refused(Refusal::BadSize);
     }
-    if instruction.len() < 48 {
-        return returned::refused(Refusal::BadSize);
-    }
     match decode::decode(&code[offset..]) {
         Decoded::Found(i, n) => {
+            if instruction.len() < 48 {
+                return returned::refused(Refusal::BadSize);
+            }
             let form = form::to_bytes(i);
             piece::put(instruction, 0, &form);
             returned::count(n)

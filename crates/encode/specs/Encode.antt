@@ -7,7 +7,7 @@ use lib.Dec.{eqb, leb}
 use lib.ListN.{length, drop}
 use Rattle.bits.specs.Word.{bytesOf}
 use Rattle.isa.specs.Decode.{decodeOf}
-use Rattle.isa.specs.declared.answer.Refusal.{Refusal}
+use Rattle.isa.specs.Refusal.{refusal}
 use Rattle.isa.specs.declared.answer.Decoded.{Decoded}
 use Rattle.isa.specs.declared.answer.Encoded.{Encoded}
 use Rattle.isa.specs.declared.instruction.Instruction.{Instruction}
@@ -44,7 +44,7 @@ encodingLeft i out = cond (accepts i && leb (lengthOf i) (length out)) (bytesFor
 
 abbrev pub encodedSpelled : Spelled → List ℕ → Encoded
 encodedSpelled (Spelled.Is i) out = encodedOf i out
-encodedSpelled Spelled.None out = Encoded.Refused Refusal.NoEncoding
+encodedSpelled Spelled.None out = Encoded.Refused (refusal 8)
 
 abbrev pub leftSpelled : Spelled → List ℕ → List ℕ
 leftSpelled (Spelled.Is i) out = encodingLeft i out

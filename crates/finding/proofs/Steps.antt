@@ -8,6 +8,7 @@ use lib.Dec.{leb}
 use lib.ListN.{drop, getD, length, drop-of-length-le}
 use lib.Seq.{drop-cons}
 use borrow.Author.Tests.{le-leb, lt-leb}
+use Rattle.isa.specs.Refusal.{refusal}
 use Rattle.isa.specs.Find.{Form}
 use Rattle.isa.specs.declared.answer.Find.{Find}
 use Rattle.finding.specs.First.{agrees, firstOf, noForm}
@@ -30,5 +31,5 @@ module _ (fs : List Form) (i : ℕ) (h : i < length fs) (w n : ℕ) (more : Bool
   pub pass : agrees (getD fs i noForm) w n ≡ false → firstOf (drop i fs) more w n ≡ firstOf (drop (i + 1) fs) more w n
   pass a = next ∙ simp (a, and-false, or-false)
 
-pub ends : (fs : List Form) (i w n : ℕ) (more : Bool) → length fs ≤ i → firstOf (drop i fs) more w n ≡ cond more Find.CutShort Find.NoDiagram
+pub ends : (fs : List Form) (i w n : ℕ) (more : Bool) → length fs ≤ i → firstOf (drop i fs) more w n ≡ cond more (Find.Refused (refusal 2)) (Find.Refused (refusal 3))
 ends fs i w n more h = ap (λ (l : List Form). firstOf l more w n) (drop-of-length-le fs h)

@@ -6,6 +6,7 @@ use mathlib.Core.List.{List, [], _∷_}
 use lib.Bits.{bitAnd}
 use lib.Dec.{eqb, leb}
 use Rattle.bits.specs.Word.{ones}
+use Rattle.isa.specs.Refusal.{refusal}
 use Rattle.isa.specs.Find.{Form}
 use Rattle.isa.specs.declared.answer.Find.{Find}
 
@@ -14,15 +15,14 @@ abbrev pub agrees : Form → ℕ → ℕ → Bool
 agrees f w n = eqb (bitAnd w (f .mask)) (bitAnd (f .value) (ones n))
 
 abbrev pub firstOf : List Form → Bool → ℕ → ℕ → Find
-firstOf [] more w n = cond more Find.CutShort Find.NoDiagram
+firstOf [] more w n = cond more (Find.Refused (refusal 2)) (Find.Refused (refusal 3))
 firstOf (f ∷ fs) more w n =
     cond (leb (f .bytes) n && agrees f w n) (Find.At (f .place) (f .bytes)) (firstOf fs (more || agrees f w n) w n)
 
 -- a place of the list of rows, and a length of at most eight bytes
 abbrev pub FoundWithin : Find → Type 0
 FoundWithin (Find.At place n) = (place < 22) × (n < 9)
-FoundWithin Find.CutShort = Unit {0}
-FoundWithin Find.NoDiagram = Unit {0}
+FoundWithin (Find.Refused r) = Unit {0}
 
 -- what stands past the end of the forms
 abbrev pub noForm : Form

@@ -12,6 +12,7 @@ use crate::table::bytes_of;
 use crate::table::ones_of;
 use crate::table::place_of;
 use isa::answer::Find;
+use isa::answer::Refusal;
 
 // The first form that matches the word w, of which n bytes are lent and the others are zero. The tables are laid out once, before the
 // loop: a const is laid out anew wherever it is named.
@@ -35,8 +36,8 @@ pub fn find_first(w: u64, n: usize) -> Find
         i += 1;
     }
     if more {
-        Find::CutShort
+        Find::Refused(Refusal::CutShort)
     } else {
-        Find::NoDiagram
+        Find::Refused(Refusal::NoDiagram)
     }
 }

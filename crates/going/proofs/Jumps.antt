@@ -4,7 +4,7 @@ use Prim.Native.Nat.{ℕ, zero, suc, _+_, _-_, _/_, _%_, _^_, _<_, _≤_}
 use native.Mathlib.Omega.{arith}
 use borrow.Author.Tests.{eq-eqb, ne-eqb, lt-ltb, le-ltb}
 use lib.IntN.{pos, negsuc, negℤ, _+ℤ_}
-use Rattle.isa.specs.declared.answer.Refusal.{Refusal}
+use Rattle.isa.specs.Refusal.{refusal}
 use Rattle.machine.specs.Integer.{signExtend}
 use Rattle.machine.specs.Step.{landing, nowhere}
 
@@ -30,7 +30,7 @@ back address off h k l =
 
 -- further back than the first byte of the code
 pub too-far-back : (length address off : ℕ) → 2 ^ 31 ≤ off → off < 2 ^ 32 → address < 2 ^ 32 - off
-    → landing length (pos address +ℤ signExtend off 32) ≡ nowhere Refusal.BadTarget
+    → landing length (pos address +ℤ signExtend off 32) ≡ nowhere (refusal 7)
 too-far-back length address off h k l =
     let e : suc (2 ^ 32 - suc off) ≡ 2 ^ 32 - off = omega arith in
     rw (backward off h k, e, lt-ltb address (2 ^ 32 - off) l)

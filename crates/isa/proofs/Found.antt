@@ -56,8 +56,7 @@ module _ (s : List ℕ) (Q : Form → Type 0) where
 
 abbrev Of : List ℕ → Find → Type 0
 Of s (Find.At p n) = (f : Form) × Matched s f × (f .place ≡ p) × (f .bytes ≡ n)
-Of s Find.CutShort = Unit {0}
-Of s Find.NoDiagram = Unit {0}
+Of s (Find.Refused r) = Unit {0}
 
 of-best : (s : List ℕ) (b : Option Form) (more : Bool) → IfAny (Matched s) b → Of s (found b more)
 of-best s none true h = tt
@@ -118,15 +117,13 @@ module _ (s : List ℕ) where
 -- a place of the list, and a length that is lent
 abbrev pub Lent : List ℕ → Find → Type 0
 Lent s (Find.At p n) = (p < 22) × (4 ≤ n) × (n ≤ 8) × (n ≤ length s)
-Lent s Find.CutShort = Unit {0}
-Lent s Find.NoDiagram = Unit {0}
+Lent s (Find.Refused r) = Unit {0}
 
 pub found-lent : (s : List ℕ) → Lent s (findOf s)
 found-lent s = go (findOf s) refl
   where
     go : (x : Find) → findOf s ≡ x → Lent s x
-    go Find.CutShort e = tt
-    go Find.NoDiagram e = tt
+    go (Find.Refused r) e = tt
     go (Find.At p n) e =
         let q = found-form s p n e in
         let m = q .1 in

@@ -5,8 +5,8 @@ use lib.ListN.{getD, take}
 use Rattle.bits.specs.Word.{le}
 use Rattle.isa.specs.Diagram.{Diagram, diagram, readBy}
 use Rattle.isa.specs.Rows.{rows}
+use Rattle.isa.specs.Refusal.{refusal}
 use Rattle.isa.specs.Find.{findOf}
-use Rattle.isa.specs.declared.answer.Refusal.{Refusal}
 use Rattle.isa.specs.declared.answer.Find.{Find}
 use Rattle.isa.specs.declared.answer.Reading.{Reading}
 use Rattle.isa.specs.declared.answer.Decoded.{Decoded}
@@ -24,13 +24,12 @@ readAt place w = readBy (rowAt place) w
 
 abbrev pub decodedOf : Reading → ℕ → Decoded
 decodedOf (Reading.Is i) n = Decoded.Found i n
-decodedOf Reading.NoMeaning n = Decoded.Refused Refusal.NoMeaning
+decodedOf Reading.NoMeaning n = Decoded.Refused (refusal 4)
 
 -- what was found is read from its bytes; the absent ones are zero
 abbrev pub readFound : Find → List ℕ → Decoded
 readFound (Find.At place n) code = decodedOf (readAt place (le (take n code))) n
-readFound Find.CutShort code = Decoded.Refused Refusal.CutShort
-readFound Find.NoDiagram code = Decoded.Refused Refusal.NoDiagram
+readFound (Find.Refused r) code = Decoded.Refused r
 
 unfoldable pub decodeOf : List ℕ → Decoded
 decodeOf code = readFound (findOf code) code

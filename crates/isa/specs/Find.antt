@@ -9,6 +9,7 @@ use lib.ListN.{length, take}
 use Rattle.bits.specs.Word.{le, ones}
 use Rattle.isa.specs.Diagram.{Diagram, fieldMask, fixedMask, fixedValue, fixedCount}
 use Rattle.isa.specs.Rows.{rows}
+use Rattle.isa.specs.Refusal.{refusal}
 use Rattle.isa.specs.declared.answer.Find.{Find}
 
 -- ---- the forms of a diagram
@@ -79,11 +80,11 @@ abbrev pub anyGoesOn : List Form → List ℕ → Bool
 anyGoesOn [] code = false
 anyGoesOn (f ∷ fs) code = goesOn f code || anyGoesOn fs code
 
--- none matches, but one agrees so far and is longer: cut short. Otherwise no diagram
+-- if none matches but one agrees so far and is longer, the answer is 2; otherwise it is 3
 abbrev pub found : Option Form → Bool → Find
 found (some f) more = Find.At (f .place) (f .bytes)
-found none true = Find.CutShort
-found none false = Find.NoDiagram
+found none true = Find.Refused (refusal 2)
+found none false = Find.Refused (refusal 3)
 
 abbrev pub findOf : List ℕ → Find
 findOf code = found (bestOf forms code none) (anyGoesOn forms code)

@@ -1,5 +1,8 @@
--- The refusal numbers, from the table "Refusal numbers" of the statement of what to build.
+-- The refusal numbers, from the table "Refusal numbers" of the statement of what to build. The definitions refuse by number.
 use Prim.Native.Nat.{ℕ}
+use mathlib.Core.Bool.{cond}
+use mathlib.Core.List.{List, [], _∷_}
+use lib.Dec.{eqb}
 use Rattle.isa.specs.declared.answer.Refusal.{Refusal}
 
 abbrev pub numberOf : Refusal → ℕ
@@ -12,3 +15,15 @@ numberOf Refusal.NoSpecial = 6
 numberOf Refusal.BadTarget = 7
 numberOf Refusal.NoEncoding = 8
 numberOf Refusal.ShortBuffer = 9
+
+-- the first of some refusals that has the number n
+abbrev firstWith : ℕ → Refusal → List Refusal → Refusal
+firstWith n r [] = r
+firstWith n r (q ∷ qs) = cond (eqb (numberOf r) n) r (firstWith n q qs)
+
+-- the refusal that has the number n, 1 to 9
+abbrev pub refusal : ℕ → Refusal
+refusal n =
+    firstWith n Refusal.BadSize
+    (Refusal.CutShort ∷ Refusal.NoDiagram ∷ Refusal.NoMeaning ∷ Refusal.NoRegister ∷ Refusal.NoSpecial ∷ Refusal.BadTarget
+    ∷ Refusal.NoEncoding ∷ Refusal.ShortBuffer ∷ [])

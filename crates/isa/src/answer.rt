@@ -16,11 +16,11 @@ pub enum Refusal {
     ShortBuffer,
 }
 
-// What the finding rule answers: the place of a diagram in the list, counted from 0, and the length of the instruction in bytes.
+// What the finding rule answers: the place of a diagram in the list, counted from 0, and the length of the instruction in bytes; or the
+// refusal.
 pub enum Find {
     At(usize, usize),
-    CutShort,
-    NoDiagram,
+    Refused(Refusal),
 }
 
 // What reading the word of a diagram answers.

@@ -12,7 +12,7 @@ use Rattle.isa.specs.Find.{forms}
 use Rattle.isa.specs.Operand.{destinationOf}
 use Rattle.isa.specs.Together.{withDst}
 use Rattle.isa.specs.Decode.{decodeOf}
-use Rattle.walk.specs.Walk.{walkFrom, walkOf, shown, stop, refusal}
+use Rattle.walk.specs.Walk.{walkFrom, walkOf, shown, stop, refusalOf}
 use Rattle.isa.specs.Parts.{partsOf}
 use Rattle.lines.specs.Line.{lineAt, endLine}
 use Rattle.listing.specs.Listing.{textOf, listingOf}
@@ -20,14 +20,14 @@ use Rattle.listing.proofs.Apart.{text-same}
 use Rattle.listing.proofs.Seen.{plain, seen}
 
 -- A listing that reaches `end` has shown every byte.
-pub shown-whole : (a : List ℕ) → refusal (walkOf a) ≡ none → shown (walkOf a) ≡ a
+pub shown-whole : (a : List ℕ) → refusalOf (walkOf a) ≡ none → shown (walkOf a) ≡ a
 shown-whole a e = seen a .whole (le-refl (length a)) e
 
 module _ (a b : List ℕ) (bytes-a : Bytes a) (bytes-b : Bytes b) (same : listingOf a ≡ listingOf b) where
   -- Two kernels listed alike show the same bytes, stop at the same address, and have the same refusal or none. What stands at and
   -- after a refusal may differ.
   pub alike-before : (shown (walkOf a) ≡ shown (walkOf b)) × (stop (walkOf a) ≡ stop (walkOf b))
-      × (refusal (walkOf a) ≡ refusal (walkOf b))
+      × (refusalOf (walkOf a) ≡ refusalOf (walkOf b))
   unfolding listingOf
   alike-before =
       let t = text-same (walkOf a) (walkOf b) (plain a bytes-a) (plain b bytes-b) same in
@@ -35,7 +35,7 @@ module _ (a b : List ℕ) (bytes-a : Bytes a) (bytes-b : Bytes b) (same : listin
       (t .0, s, t .1)
 
   -- No two different kernels are listed alike, where nothing is refused.
-  pub alike : refusal (walkOf a) ≡ none → a ≡ b
+  pub alike : refusalOf (walkOf a) ≡ none → a ≡ b
   alike none-a =
       let t = alike-before in
       sym (shown-whole a none-a) ∙ t .0 ∙ shown-whole b (sym (t .2) ∙ none-a)

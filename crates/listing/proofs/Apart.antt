@@ -10,16 +10,17 @@ use lib.ListN.{getD, drop}
 use borrow.Author.Tests.{ltb-true}
 use Rattle.bits.proofs.Laws.{Bytes}
 use Rattle.isa.specs.Rows.{rows}
-use Rattle.isa.specs.Refusal.{numberOf}
+use Rattle.isa.specs.Refusal.{numberOf, refusal}
 use Rattle.isa.specs.Parts.{placeOf}
 use Rattle.isa.specs.declared.answer.Refusal.{Refusal}
 use Rattle.isa.specs.declared.instruction.Instruction.{Instruction}
-use Rattle.walk.specs.Walk.{Walk, ended, refused, stepped, shown, refusal}
+use Rattle.walk.specs.Walk.{Walk, ended, refused, stepped, shown, refusalOf}
 use Rattle.lines.specs.Line.{tailAt, lineAt, endLine, refusedLine}
 use Rattle.hex.specs.Hex.{digit, hexBytes}
 use Rattle.listing.specs.Listing.{textOf}
 use Rattle.bits.proofs.Table.{agree}
 use Rattle.isa.proofs.Placed.{place-below}
+use Rattle.isa.proofs.Numbers.{of-number, number-below}
 
 -- ---- digits
 
@@ -76,27 +77,13 @@ rest-tail i x =
 
 -- ---- the last line
 
+-- the refusal of which a digit is the number
 named : ℕ → Refusal
-named c =
-    cond (eqb c 49) Refusal.BadSize
-    (cond (eqb c 50) Refusal.CutShort
-    (cond (eqb c 51) Refusal.NoDiagram
-    (cond (eqb c 52) Refusal.NoMeaning
-    (cond (eqb c 53) Refusal.NoRegister
-    (cond (eqb c 54) Refusal.NoSpecial
-    (cond (eqb c 55) Refusal.BadTarget (cond (eqb c 56) Refusal.NoEncoding Refusal.ShortBuffer)))))))
+named c = refusal (valueOf c)
 
 named-digit : (r : Refusal) → named (digit (numberOf r)) ≡ r
 unfolding named
-named-digit Refusal.BadSize = refl
-named-digit Refusal.CutShort = refl
-named-digit Refusal.NoDiagram = refl
-named-digit Refusal.NoMeaning = refl
-named-digit Refusal.NoRegister = refl
-named-digit Refusal.NoSpecial = refl
-named-digit Refusal.BadTarget = refl
-named-digit Refusal.NoEncoding = refl
-named-digit Refusal.ShortBuffer = refl
+named-digit r = ap refusal (value-digit (numberOf r) (omega (arith, number-below r))) ∙ of-number r
 
 -- ---- a walk
 
@@ -115,7 +102,7 @@ unfolding mark textOf lineAt
 mark-step at [] i w p = omega arith
 mark-step at (b ∷ s) i w p = let h : b < 256 = p 0 in digit-below (b / 16) (omega arith)
 
-pub text-same : (v w : Walk) → Plain v → Plain w → textOf v ≡ textOf w → (shown v ≡ shown w) × (refusal v ≡ refusal w)
+pub text-same : (v w : Walk) → Plain v → Plain w → textOf v ≡ textOf w → (shown v ≡ shown w) × (refusalOf v ≡ refusalOf w)
 unfolding mark textOf lineAt endLine refusedLine
 text-same (ended a) (ended b) p q e = (refl, refl)
 text-same (ended a) (refused b r) p q e = let z = ap mark e in absurd (omega arith)

@@ -11,6 +11,7 @@ use lib.Seq.{drop-drop}
 use borrow.Author.Tests.{le-leb, leb-true}
 use Rattle.isa.proofs.Found.{found-length}
 use Rattle.isa.specs.Decode.{decodeOf}
+use Rattle.isa.specs.Refusal.{refusal}
 use Rattle.isa.specs.declared.answer.Refusal.{Refusal}
 use Rattle.isa.specs.declared.answer.Decoded.{Decoded}
 use Rattle.isa.specs.declared.instruction.Instruction.{Instruction}
@@ -73,7 +74,7 @@ first at (b ∷ s) h =
 -- ---- the text that is left from an address on
 
 walkAt : List ℕ → ℕ → Walk
-walkAt code at = cond (leb (length code) limit) (walkAll at (drop at code)) (refused at Refusal.BadSize)
+walkAt code at = cond (leb (length code) limit) (walkAll at (drop at code)) (refused at (refusal 1))
 
 pub left : List ℕ → ℕ → List ℕ
 left code at = textOf (walkAt code at)
@@ -91,7 +92,7 @@ listed false d r i n e = let z : _≡_ {A = ℕ} 0 1 = cc in absurd (omega arith
 found-within : (code : List ℕ) (at : ℕ) (i : Instruction) (k : ℕ) → at < length code → standsAt code at ≡ Decoded.Found i k
     → (4 ≤ k) × (k ≤ 8) × (at + k ≤ length code) × (length code ≤ limit)
 found-within code at i k h e =
-    let t = listed (leb (length code) limit) (decodeOf (drop at code)) Refusal.BadSize i k e in
+    let t = listed (leb (length code) limit) (decodeOf (drop at code)) (refusal 1) i k e in
     let l : length code ≤ limit = leb-true (length code) limit (t .0) in
     let f = found-length (drop at code) i k (t .1) in
     let d = length-drop at code in
@@ -103,9 +104,9 @@ unfolding walkAt
 walk-at code at h = one (leb (length code) limit)
   where
     one : (t : Bool)
-        → cond t (walkAll at (drop at code)) (refused at Refusal.BadSize)
-        ≡ stepBy (cond t (decodeOf (drop at code)) (Decoded.Refused Refusal.BadSize))
-        (λ a s. cond t (walkAll a (drop a code)) (refused a Refusal.BadSize)) at (drop at code)
+        → cond t (walkAll at (drop at code)) (refused at (refusal 1))
+        ≡ stepBy (cond t (decodeOf (drop at code)) (Decoded.Refused (refusal 1)))
+        (λ a s. cond t (walkAll a (drop a code)) (refused a (refusal 1))) at (drop at code)
     one true =
         let p : 0 < length (drop at code) = rw length-drop (omega arith) in
         first at (drop at code) p

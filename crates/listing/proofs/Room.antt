@@ -11,6 +11,7 @@ use borrow.Author.Tests.{leb-true, le-leb}
 use Rattle.isa.proofs.Found.{found-length}
 use Rattle.isa.specs.Decode.{decodeOf}
 use Rattle.isa.specs.Parts.{placeOf}
+use Rattle.isa.specs.Refusal.{refusal}
 use Rattle.isa.specs.declared.answer.Refusal.{Refusal}
 use Rattle.isa.specs.declared.instruction.Instruction.{Instruction}
 use Rattle.walk.specs.Walk.{Walk, refused, stepped, walkFrom, walkOf, limit}
@@ -52,7 +53,7 @@ unfolding listingOf walkOf textOf refusedLine
 room code = one (leb (length code) limit) refl
   where
     one : (t : Bool) → leb (length code) limit ≡ t
-        → length (textOf (cond t (walkFrom (length code) 0 code) (refused 0 Refusal.BadSize))) ≤ 65536
+        → length (textOf (cond t (walkFrom (length code) 0 code) (refused 0 (refusal 1)))) ≤ 65536
     one true e =
         let h = leb-true (length code) limit e in
         let g = room-from (length code) 0 code in

@@ -12,9 +12,10 @@ use lib.Seq.{take-add}
 use Rattle.bits.proofs.Laws.{Bytes, bytes-take, bytes-drop}
 use Rattle.isa.proofs.Found.{found-length}
 use Rattle.isa.specs.Decode.{decodeOf}
+use Rattle.isa.specs.Refusal.{refusal}
 use Rattle.isa.specs.declared.answer.Refusal.{Refusal}
 use Rattle.isa.specs.declared.instruction.Instruction.{Instruction}
-use Rattle.walk.specs.Walk.{Walk, refused, stepped, walkFrom, walkOf, limit, shown, stop, refusal}
+use Rattle.walk.specs.Walk.{Walk, refused, stepped, walkFrom, walkOf, limit, shown, stop, refusalOf}
 use Rattle.listing.proofs.Left.{step-all, shorter}
 use Rattle.listing.proofs.Apart.{Plain}
 
@@ -31,7 +32,7 @@ plain-from (suc k) at (b ∷ s) h =
 pub record Seen (k at : ℕ) (s : List ℕ) (w : Walk) : Type 0 where
   pub before : shown w ≡ take (length (shown w)) s
   pub place : stop w ≡ at + length (shown w)
-  pub whole : length s ≤ k → refusal w ≡ none → shown w ≡ s
+  pub whole : length s ≤ k → refusalOf w ≡ none → shown w ≡ s
 
 seen-refused : (k at : ℕ) (s : List ℕ) (r : Refusal) → Seen k at s (refused at r)
 seen-refused k at s r =
@@ -73,7 +74,7 @@ pub plain : (code : List ℕ) → Bytes code → Plain (walkOf code)
 unfolding walkOf
 plain code h = one (leb (length code) limit)
   where
-    one : (t : Bool) → Plain (cond t (walkFrom (length code) 0 code) (refused 0 Refusal.BadSize))
+    one : (t : Bool) → Plain (cond t (walkFrom (length code) 0 code) (refused 0 (refusal 1)))
     one true = plain-from (length code) 0 code h
     one false = tt
 
@@ -81,6 +82,6 @@ pub seen : (code : List ℕ) → Seen (length code) 0 code (walkOf code)
 unfolding walkOf
 seen code = one (leb (length code) limit)
   where
-    one : (t : Bool) → Seen (length code) 0 code (cond t (walkFrom (length code) 0 code) (refused 0 Refusal.BadSize))
+    one : (t : Bool) → Seen (length code) 0 code (cond t (walkFrom (length code) 0 code) (refused 0 (refusal 1)))
     one true = seen-from (length code) 0 code
-    one false = seen-refused (length code) 0 code Refusal.BadSize
+    one false = seen-refused (length code) 0 code (refusal 1)

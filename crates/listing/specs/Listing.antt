@@ -4,7 +4,7 @@ use mathlib.Core.Bool.{cond}
 use mathlib.Core.List.{List, _++_}
 use lib.Dec.{leb}
 use lib.ListN.{length, drop}
-use Rattle.isa.specs.declared.answer.Refusal.{Refusal}
+use Rattle.isa.specs.Refusal.{refusal}
 use Rattle.lines.specs.Line.{lineOf, endLine, refusedLine}
 use Rattle.walk.specs.Walk.{Walk, ended, refused, stepped, walkOf}
 use Rattle.listing.specs.declared.Listed.{Listed}
@@ -22,7 +22,7 @@ listingOf code = textOf (walkOf code)
 
 abbrev pub listedOf : List ℕ → ℕ → Listed
 listedOf code room =
-    cond (leb (length (listingOf code)) room) (Listed.Wrote (length (listingOf code))) (Listed.Refused Refusal.BadSize)
+    cond (leb (length (listingOf code)) room) (Listed.Wrote (length (listingOf code))) (Listed.Refused (refusal 1))
 
 -- the listing at the start of what stood there
 abbrev pub listingLeft : List ℕ → List ℕ → List ℕ

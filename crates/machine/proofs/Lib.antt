@@ -4,4 +4,3 @@ pub mod Steps
 pub mod Sizes
 pub mod Runs
 pub mod Records
-pub mod Examples

@@ -7,6 +7,7 @@ use native.Mathlib.Omega.{arith}
 use borrow.Author.Tests.{eqb-true, eqb-false, ne-eqb}
 use lib.Dec.{eqb}
 use lib.ListN.{length}
+use Rattle.isa.specs.Refusal.{refusal}
 use Rattle.isa.specs.declared.answer.Refusal.{Refusal}
 use Rattle.machine.specs.Words.{Tables}
 use Rattle.machine.specs.Meaning.{meaningOf}
@@ -55,7 +56,7 @@ module _ (c : Call) (P : ℕ → State → Run → Type 0)
       → P (suc n) s (ends (Ending.Refused r) s))
   (steps : (n : ℕ) (s : State) (step : Step) (rest : Run) → stepOf (c .code) (tablesOf c) s ≡ accepted step
       → P n (step .after) rest → P (suc n) s (after step rest))
-  (badSize : arranged c ≡ false → P (c .budget) (startOf c) (ends (Ending.Refused Refusal.BadSize) (startOf c))) where
+  (badSize : arranged c ≡ false → P (c .budget) (startOf c) (ends (Ending.Refused (refusal 1)) (startOf c))) where
 
   pub every-call : P (c .budget) (startOf c) (runOf c)
   unfolding runOf
@@ -63,7 +64,7 @@ module _ (c : Call) (P : ℕ → State → Run → Type 0)
     where
       go : (b : Bool) → arranged c ≡ b
           → P (c .budget) (startOf c)
-            (cond b (runFrom (c .code) (tablesOf c) (c .budget) (startOf c)) (ends (Ending.Refused Refusal.BadSize) (startOf c)))
+            (cond b (runFrom (c .code) (tablesOf c) (c .budget) (startOf c)) (ends (Ending.Refused (refusal 1)) (startOf c)))
       go true e = every-run (c .code) (tablesOf c) P finishes spends refuses steps (c .budget) (startOf c)
       go false e = badSize e
 
@@ -132,7 +133,7 @@ ended c h =
     (λ a. let z : _≡_ {A = ℕ} 0 1 = cc in absurd (omega arith))
 
 -- sizes that are not as they have to be are refused with 1, and no step is made
-pub badly-arranged : (c : Call) → arranged c ≡ false → runOf c ≡ ends (Ending.Refused Refusal.BadSize) (startOf c)
+pub badly-arranged : (c : Call) → arranged c ≡ false → runOf c ≡ ends (Ending.Refused (refusal 1)) (startOf c)
 unfolding runOf
 badly-arranged c e = rw e
 

@@ -8,7 +8,7 @@ use native.Mathlib.Omega.{arith}
 use lib.Dec.{eqb, leb, lit≤}
 use lib.ListN.{length, drop}
 use lib.IntN.{ℤ, pos, negsuc, _+ℤ_}
-use Rattle.isa.specs.Refusal.{numberOf}
+use Rattle.isa.specs.Refusal.{numberOf, refusal}
 use Rattle.isa.specs.declared.answer.Refusal.{Refusal}
 use Rattle.isa.specs.declared.instruction.Instruction.{Instruction}
 use Rattle.isa.proofs.Cases.{cases}
@@ -41,10 +41,10 @@ Somewhere (nowhere r) = Numbered r
 landed : (codeLength : ℕ) (z : ℤ) → Somewhere (landing codeLength z)
 landed codeLength (pos target) = go (both (eqb (target % 2) 0) (leb target codeLength))
   where
-    go : (b : Bool) → Somewhere (cond b (to target 4) (nowhere Refusal.BadTarget))
+    go : (b : Bool) → Somewhere (cond b (to target 4) (nowhere (refusal 7)))
     go true = tt
-    go false = numbered Refusal.BadTarget (lit≤ tt) (lit≤ tt)
-landed codeLength (negsuc below) = numbered Refusal.BadTarget (lit≤ tt) (lit≤ tt)
+    go false = numbered (refusal 7) (lit≤ tt) (lit≤ tt)
+landed codeLength (negsuc below) = numbered (refusal 7) (lit≤ tt) (lit≤ tt)
 
 goes-somewhere : (m : Meaning) (codeLength bytes address mask : ℕ) → Somewhere (goingOf m codeLength bytes address mask)
 unfolding goingOf
@@ -62,10 +62,10 @@ module _ (tables : Tables) (s : State) where
   gone (nowhere r) i bytes h = h
 
   held : (a b : Bool) (x : Stepped) → AsStepped tables s x
-      → AsStepped tables s (cond a (cond b x (refused Refusal.NoSpecial)) (refused Refusal.NoRegister))
+      → AsStepped tables s (cond a (cond b x (refused (refusal 6))) (refused (refusal 5)))
   held true true x h = h
-  held true false x h = numbered Refusal.NoSpecial (lit≤ tt) (lit≤ tt)
-  held false b x h = numbered Refusal.NoRegister (lit≤ tt) (lit≤ tt)
+  held true false x h = numbered (refusal 6) (lit≤ tt) (lit≤ tt)
+  held false b x h = numbered (refusal 5) (lit≤ tt) (lit≤ tt)
 
   as-stepped : (code : List ℕ) → AsStepped tables s (stepOf code tables s)
   unfolding stepOf stepBy

@@ -5,7 +5,7 @@ use mathlib.Core.Bool.{Bool, cond}
 use mathlib.Core.List.{List, [], _∷_}
 use lib.Dec.{eqb, leb}
 use lib.ListN.{length}
-use Rattle.isa.specs.declared.answer.Refusal.{Refusal}
+use Rattle.isa.specs.Refusal.{refusal}
 use Rattle.machine.specs.Words.{Tables}
 use Rattle.machine.specs.Meaning.{both}
 use Rattle.machine.specs.State.{State, threadsAt, stateAt}
@@ -86,7 +86,7 @@ unfoldable pub runOf : Call → Run
 runOf c =
     cond (arranged c)
     (runFrom (c .code) (tablesOf c) (c .budget) (startOf c))
-    (ends (Ending.Refused Refusal.BadSize) (startOf c))
+    (ends (Ending.Refused (refusal 1)) (startOf c))
 
 -- ---- what the call answers and leaves
 

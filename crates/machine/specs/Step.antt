@@ -7,6 +7,7 @@ use lib.Dec.{eqb, leb}
 use lib.ListN.{length, getD, drop}
 use lib.IntN.{ℤ, pos, negsuc, _+ℤ_}
 use Rattle.isa.specs.Decode.{decodeOf}
+use Rattle.isa.specs.Refusal.{refusal}
 use Rattle.isa.specs.declared.answer.Refusal.{Refusal}
 use Rattle.isa.specs.declared.answer.Decoded.{Decoded}
 use Rattle.isa.specs.declared.operand.Destination.{Destination}
@@ -100,8 +101,8 @@ taken any mask = cond any (not (eqb mask 0)) (eqb mask 0)
 -- a taken jump's target: even, not below 0 and not above the code length
 abbrev pub landing : ℕ → ℤ → Going
 landing codeLength (pos target) =
-    cond (both (eqb (target % 2) 0) (leb target codeLength)) (to target 4) (nowhere Refusal.BadTarget)
-landing codeLength (negsuc below) = nowhere Refusal.BadTarget
+    cond (both (eqb (target % 2) 0) (leb target codeLength)) (to target 4) (nowhere (refusal 7))
+landing codeLength (negsuc below) = nowhere (refusal 7)
 
 unfoldable pub goingOf : Meaning → ℕ → ℕ → ℕ → ℕ → Going
 goingOf (writes d a b c result) codeLength bytes address mask = to (address + bytes) 1
@@ -137,8 +138,8 @@ stepBy (Decoded.Found i bytes) codeLength tables s =
     cond (leb (32 * registersReach (meaningOf i)) (length (s .threads .registers)))
     (cond (leb (32 * specialsReach (meaningOf i)) (length (tables .specials)))
     (goTo (goingOf (meaningOf i) codeLength bytes (s .address) (s .threads .mask)) i bytes tables s)
-    (refused Refusal.NoSpecial))
-    (refused Refusal.NoRegister)
+    (refused (refusal 6)))
+    (refused (refusal 5))
 
 unfoldable pub stepOf : List ℕ → Tables → State → Stepped
 stepOf code tables s = stepBy (decodeOf (drop (s .address) code)) (length code) tables s

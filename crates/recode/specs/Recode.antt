@@ -6,7 +6,7 @@ use mathlib.Core.List.{List, [], _∷_, _++_}
 use lib.Dec.{leb}
 use lib.ListN.{length, drop}
 use Rattle.isa.specs.Decode.{decodeOf}
-use Rattle.isa.specs.declared.answer.Refusal.{Refusal}
+use Rattle.isa.specs.Refusal.{refusal}
 use Rattle.isa.specs.declared.answer.Decoded.{Decoded}
 use Rattle.isa.specs.declared.answer.Encoded.{Encoded}
 use Rattle.isa.specs.declared.instruction.Instruction.{Instruction}
@@ -30,7 +30,7 @@ recodedOf code = againFrom (length code) code
 -- ---- the call: a buffer that is shorter than the code is refused with 1, and nothing is written
 
 abbrev pub answerOf : ℕ → ℕ → Encoded
-answerOf n room = cond (leb n room) (Encoded.Wrote n) (Encoded.Refused Refusal.BadSize)
+answerOf n room = cond (leb n room) (Encoded.Wrote n) (Encoded.Refused (refusal 1))
 
 abbrev pub leftOf : List ℕ → List ℕ → List ℕ
 leftOf code out = cond (leb (length code) (length out)) (recodedOf code ++ drop (length code) out) out

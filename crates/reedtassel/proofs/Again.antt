@@ -3,7 +3,6 @@ use mathlib.Core.Path.{_≡_, refl, sym, ap, _∙_}
 use mathlib.Core.List.{List, _++_}
 use Prim.Native.Nat.{ℕ, _≤_, zero-le}
 use native.Mathlib.Omega.{arith}
-use borrow.Author.Tests.{le-leb}
 use lib.IntN.{ℤ}
 use lib.ListN.{length, take, drop}
 use Rattle.bits.proofs.Laws.{Bytes, bytes-drop}
@@ -18,7 +17,7 @@ use Rattle.roundtrip.proofs.Round.{decode-encode, encode-decode}
 use Rattle.answers.specs.Returned.{decodedBy, encodedBy}
 use Rattle.decodeat.specs.DecodeAt.{formLength, decodedAt, formLeft, DecodesAt}
 use Rattle.reedtassel.specs.EncodeForm.{EncodesForm}
-use Rattle.decodeat.proofs.Decoding.{form-first, decoded-there}
+use Rattle.decodeat.proofs.Decoding.{form-first, decoded-there, decoded-whole}
 
 module _ {code : List ℕ} {offset : ℕ} {instruction : List ℕ} {z : ℤ} {left : List ℕ} (d : DecodesAt code offset instruction z left)
   (bytes : Bytes code) (i : Instruction) (n : ℕ) (e : decodedAt code offset instruction ≡ Decoded.Found i n) where
@@ -37,7 +36,6 @@ module _ {form out : List ℕ} {z : ℤ} {encoding : List ℕ} (c : EncodesForm 
   -- the encoding alone, decoded from its start, gives the byte form back, and the same number is returned
   pub encoded-again : (instruction : List ℕ) → formLength ≤ length instruction → {y : ℤ} {left : List ℕ}
       → DecodesAt (take n encoding) 0 instruction y left → (y ≡ z) × (take formLength left ≡ form)
-  unfolding decodedAt
   encoded-again instruction h {y} {left} d = go (spelledOf form) refl
     where
       go : (s : Spelled) → spelledOf form ≡ s → (y ≡ z) × (take formLength left ≡ form)
@@ -49,7 +47,7 @@ module _ {form out : List ℕ} {z : ℤ} {encoding : List ℕ} (c : EncodesForm 
           let w = ap (λ (x : Spelled). encodedSpelled x out) (sym q) ∙ e in
           let l = c .leaves ∙ ap (λ (x : Spelled). leftSpelled x out) q in
           let f : decodedAt (take n encoding) 0 instruction ≡ Decoded.Found i n =
-                rw (le-leb 0 (length (take n encoding)) zero-le, le-leb formLength (length instruction) h, l) (encode-decode i out n w) in
+                decoded-whole (take n encoding) 0 instruction i n zero-le h (rw l (encode-decode i out n w)) in
           (d .returns ∙ ap decodedBy f ∙ sym (c .returns ∙ ap encodedBy e),
             ap (take formLength) (d .leaves ∙ ap (λ (x : Decoded). formLeft x instruction) f) ∙ form-first i instruction
               ∙ sym (spelled-form form i q))

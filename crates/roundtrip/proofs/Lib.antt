@@ -6,4 +6,3 @@ pub mod Round
 pub mod Placing
 pub mod Again
 pub mod Why
-pub mod Examples

@@ -16,7 +16,7 @@ use Rattle.bits.proofs.Laws.{Bytes, bytes-bytesOf, take-bytes, le-bytes, pow-by
 use Rattle.bits.proofs.Masks.{and-assoc}
 use Rattle.bits.proofs.Table.{_&_, all-at}
 use Rattle.isa.specs.Diagram.{Field, widthOf, mask, fixedValue}
-use Rattle.isa.specs.Refusal.{numberOf}
+use Rattle.isa.specs.Refusal.{numberOf, refusal}
 use Rattle.isa.specs.Rows.{rows}
 use Rattle.isa.specs.Decode.{noDiagram, rowAt, readAt, decodedOf, readFound, decodeOf}
 use Rattle.isa.specs.Parts.{partsOf, placeOf, keptOf}
@@ -181,13 +181,13 @@ accepts-encodable i = (accepted-encodable i, encodable-accepted i)
 
 -- whatever the buffer is, the answer is 8 and it is left as it was
 abbrev pub Refused8 : Instruction → Type 0
-Refused8 i = (out : List ℕ) → (encodedOf i out ≡ Encoded.Refused Refusal.NoEncoding) × (encodingLeft i out ≡ out)
+Refused8 i = (out : List ℕ) → (encodedOf i out ≡ Encoded.Refused (refusal 8)) × (encodingLeft i out ≡ out)
 
 pub refused-for : (i : Instruction) → (Encodable i → ⊥) → Refused8 i
 unfolding encodedOf encodingLeft
 refused-for i h out = go (accepts i) refl
   where
-    go : (b : Bool) → accepts i ≡ b → (encodedOf i out ≡ Encoded.Refused Refusal.NoEncoding) × (encodingLeft i out ≡ out)
+    go : (b : Bool) → accepts i ≡ b → (encodedOf i out ≡ Encoded.Refused (refusal 8)) × (encodingLeft i out ≡ out)
     go true e = absurd (h (accepted-encodable i e))
     go false e = (rw e, rw e)
 

@@ -9,7 +9,7 @@ use lib.Dec.{eqb, leb}
 use lib.ListN.{length, drop, length-drop}
 use lib.IntN.{ℤ, pos, negsuc, _+ℤ_}
 use Rattle.isa.specs.Decode.{decodeOf}
-use Rattle.isa.specs.declared.answer.Refusal.{Refusal}
+use Rattle.isa.specs.Refusal.{refusal}
 use Rattle.isa.specs.declared.answer.Decoded.{Decoded}
 use Rattle.isa.proofs.Found.{found-length}
 use Rattle.machine.specs.Words.{Tables}
@@ -26,7 +26,7 @@ landed : (size : ℕ) (z : ℤ) → AddressWithin size (landing size z)
 landed size (pos target) = go (eqb (target % 2) 0) (leb target size) refl
   where
     go : (even inside : Bool) → leb target size ≡ inside
-        → AddressWithin size (cond (both even inside) (to target 4) (nowhere Refusal.BadTarget))
+        → AddressWithin size (cond (both even inside) (to target 4) (nowhere (refusal 7)))
     go true true e = leb-true target size e
     go true false e = tt
     go false inside e = tt
@@ -58,7 +58,7 @@ module _ (code : List ℕ) (tables : Tables) (s : State) (h : s .address ≤ len
         (omega (arith, found-length (drop (s .address) code) i n e, length-drop (s .address) code)))
     where
       held : (a b : Bool) (g : Going) → AddressWithin (length code) g
-          → Stays (length code) (cond a (cond b (goTo g i n tables s) (refused Refusal.NoSpecial)) (refused Refusal.NoRegister))
+          → Stays (length code) (cond a (cond b (goTo g i n tables s) (refused (refusal 6))) (refused (refusal 5)))
       held true true (to address class) w = w
       held true true (nowhere r) w = tt
       held true false g w = tt

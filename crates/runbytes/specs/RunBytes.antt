@@ -1,17 +1,19 @@
 -- A run whose registers, uniforms and special registers are lent as little-endian bytes, as docs/c-interface.md describes it: it ends and
 -- leaves what the run on the words that the bytes spell does, with the answer as 24 bytes. Refusal 1 is also for a length that is no
--- multiple of four, and for an answer that has no room; then nothing is written.
+-- multiple of four, and for an answer that has no room; then nothing is written. The threads by themselves come to what it leaves.
 use Prim.Native.Nat.{ℕ}
 use mathlib.Core.Path.{_≡_}
-use mathlib.Core.Bool.{Bool, cond}
+use mathlib.Core.Bool.{Bool, true, cond}
 use mathlib.Core.List.{List, _++_}
-use lib.ListN.{length, drop}
-use Rattle.isa.specs.declared.answer.Refusal.{Refusal}
+use lib.ListN.{length, take, drop}
+use Rattle.bits.specs.Word.{le}
+use Rattle.isa.specs.Refusal.{refusal}
 use Rattle.machine.specs.Meaning.{both}
 use Rattle.machine.specs.Run.{Call, arranged, runOf, answerOf, registersLeft, recordsLeft}
 use Rattle.machine.specs.declared.answer.Ending.{Ending}
 use Rattle.answers.specs.Run.{answerBytes}
 use Rattle.sizes.specs.Lent.{answerLength, spelledBy}
+use Rattle.threads.specs.Visit.{ByThemselves}
 use Rattle.words.specs.Spelling.{wordsOf, bytesFor}
 
 -- what is lent to the exported run: all lists are bytes
@@ -47,12 +49,12 @@ spelled l = spelledBy (length (l .registers)) (length (l .uniforms)) (length (l 
 
 -- ---- what is returned and left
 
--- the run is callTaken: otherwise it is refused with 1, and nothing is written
+-- the call is taken: otherwise it is refused with 1, and nothing is written
 abbrev pub callTaken : Lent → Bool
 callTaken l = both (spelled l) (arranged (spelledCall l))
 
 unfoldable pub endingOf : Lent → Ending
-endingOf l = cond (callTaken l) (answerOf (runOf (spelledCall l)) .ending) (Ending.Refused Refusal.BadSize)
+endingOf l = cond (callTaken l) (answerOf (runOf (spelledCall l)) .ending) (Ending.Refused (refusal 1))
 
 -- what is left of what was lent
 pub record Leaves (l : Lent) (registers records answer : List ℕ) : Type 0 where
@@ -60,6 +62,16 @@ pub record Leaves (l : Lent) (registers records answer : List ℕ) : Type 0 wher
   pub records-left : records ≡ cond (callTaken l) (recordsLeft (spelledCall l)) (l .records)
   pub answer-left : answer ≡ cond (callTaken l) (answerBytes (answerOf (runOf (spelledCall l))) ++ drop answerLength (l .answer)) (l .answer)
 
+-- the mask in the bytes of an answer
+abbrev pub maskIn : List ℕ → ℕ
+maskIn answer = le (take 4 (drop 12 answer))
+
+-- where the call is taken, the threads by themselves, in every order of their visits, come to the words that the registers' bytes spell
+-- and to the mask in the answer
+abbrev pub ThreadsAlone : Lent → List ℕ → List ℕ → Type 0
+ThreadsAlone l registers answer = callTaken l ≡ true → ByThemselves (spelledCall l) (wordsOf registers) (maskIn answer)
+
 pub record RanOnBytes (l : Lent) (ending : Ending) (registers records answer : List ℕ) : Type 0 where
   pub ends : ending ≡ endingOf l
   pub leaves : Leaves l registers records answer
+  pub threads : ThreadsAlone l registers answer

@@ -1,4 +1,4 @@
--- A call that is callTaken, with space for as many words as its bytes spell: what it asks for, and what it leaves there.
+-- A call that is taken, with space for as many words as its bytes spell: what it asks for, and what it leaves there.
 use Prim.Native.Nat.{ℕ, _*_, _≤_}
 use mathlib.Core.Path.{_≡_}
 use mathlib.Core.Bool.{true}

@@ -8,7 +8,7 @@ use bits::piece;
 use isa::answer::Refusal;
 use machine::answer::Ending;
 
-// A call that is callTaken, with space for the words.
+// A call that is taken, with space for the words.
 fn run_in(code: &[u8], registers: &mut [u8], uniforms: &[u8], specials: &[u8], start: usize, mask: u32, budget: usize, records: &mut [u8], answer: &mut [u8], r: &mut [u32], u: &mut [u32], s: &mut [u32]) -> Ending
     requires { ⌜ Space (lentOf (now code) (now registers) (now uniforms) (now specials) start mask budget (now records) (now answer))
         (length (now r)) (length (now u)) (length (now s)) ⌝ }

@@ -10,6 +10,7 @@ use lib.ListN.{length, take, drop, length-drop}
 use lib.Seq.{take-all}
 use borrow.Author.Tests.{le-leb, lt-leb}
 use Rattle.isa.specs.Decode.{decodeOf}
+use Rattle.isa.specs.Refusal.{refusal}
 use Rattle.isa.specs.declared.answer.Refusal.{Refusal}
 use Rattle.isa.specs.declared.answer.Decoded.{Decoded}
 use Rattle.isa.specs.declared.instruction.Instruction.{Instruction}
@@ -21,12 +22,12 @@ use Rattle.step.specs.Told.{Told, stops, toldBy, goneTo, takenBy}
 
 module _ (m : Meaning) (bytes size : ℕ) (tables : Tables) (s : State) where
   pub no-register : length (s .threads .registers) / 32 < registersReach m
-      → stops Refusal.NoRegister (s .threads .registers) ≡ takenBy m bytes size tables s
+      → stops (refusal 5) (s .threads .registers) ≡ takenBy m bytes size tables s
   unfolding takenBy
   no-register h = rw (lt-leb (32 * registersReach m) (length (s .threads .registers)) (omega arith))
 
   pub no-special : registersReach m ≤ length (s .threads .registers) / 32 → length (tables .specials) / 32 < specialsReach m
-      → stops Refusal.NoSpecial (s .threads .registers) ≡ takenBy m bytes size tables s
+      → stops (refusal 6) (s .threads .registers) ≡ takenBy m bytes size tables s
   unfolding takenBy
   no-special h k =
       rw (le-leb (32 * registersReach m) (length (s .threads .registers)) (omega arith),
@@ -60,8 +61,8 @@ module _ (size : ℕ) (tables : Tables) (s : State) where
       g = goingOf (meaningOf i) size bytes (s .address) (s .threads .mask)
       split : (a b : Bool)
           → cond a (cond b (goneTo g bytes (threadsAfter (meaningOf i) tables (s .threads)) (s .threads .registers))
-            (stops Refusal.NoSpecial (s .threads .registers))) (stops Refusal.NoRegister (s .threads .registers))
-          ≡ toldBy (cond a (cond b (goTo g i bytes tables s) (refused Refusal.NoSpecial)) (refused Refusal.NoRegister)) (s .threads .registers)
+            (stops (refusal 6) (s .threads .registers))) (stops (refusal 5) (s .threads .registers))
+          ≡ toldBy (cond a (cond b (goTo g i bytes tables s) (refused (refusal 6))) (refused (refusal 5))) (s .threads .registers)
       split true true = of-going g i bytes
       split true false = refl
       split false b = refl

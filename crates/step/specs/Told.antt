@@ -4,6 +4,7 @@ use mathlib.Core.Bool.{cond}
 use mathlib.Core.List.{List}
 use lib.Dec.{leb}
 use lib.ListN.{length}
+use Rattle.isa.specs.Refusal.{refusal}
 use Rattle.isa.specs.declared.answer.Refusal.{Refusal}
 use Rattle.machine.specs.Words.{Tables}
 use Rattle.machine.specs.Meaning.{Meaning}
@@ -35,5 +36,5 @@ takenBy m bytes size tables s =
     cond (leb (32 * registersReach m) (length registers))
     (cond (leb (32 * specialsReach m) (length (tables .specials)))
     (goneTo (goingOf m size bytes (s .address) (s .threads .mask)) bytes (threadsAfter m tables (s .threads)) registers)
-    (stops Refusal.NoSpecial registers))
-    (stops Refusal.NoRegister registers)
+    (stops (refusal 6) registers))
+    (stops (refusal 5) registers)

@@ -7,6 +7,7 @@ use mathlib.Core.Option.{Option, none, some}
 use lib.Dec.{leb}
 use lib.ListN.{length, take, drop}
 use Rattle.isa.specs.Decode.{decodeOf}
+use Rattle.isa.specs.Refusal.{refusal}
 use Rattle.isa.specs.declared.answer.Refusal.{Refusal}
 use Rattle.isa.specs.declared.answer.Decoded.{Decoded}
 use Rattle.isa.specs.declared.instruction.Instruction.{Instruction}
@@ -38,11 +39,11 @@ abbrev pub limit : ℕ
 limit = 8192
 
 unfoldable pub walkOf : List ℕ → Walk
-walkOf code = cond (leb (length code) limit) (walkFrom (length code) 0 code) (refused 0 Refusal.BadSize)
+walkOf code = cond (leb (length code) limit) (walkFrom (length code) 0 code) (refused 0 (refusal 1))
 
 -- what stands at an address of the code; where the code is too long, a refusal
 abbrev pub standsAt : List ℕ → ℕ → Decoded
-standsAt code at = cond (leb (length code) limit) (decodeOf (drop at code)) (Decoded.Refused Refusal.BadSize)
+standsAt code at = cond (leb (length code) limit) (decodeOf (drop at code)) (Decoded.Refused (refusal 1))
 
 -- ---- what a walk has seen
 
@@ -58,7 +59,7 @@ stop (ended at) = at
 stop (refused at r) = at
 stop (stepped at bytes i w) = stop w
 
-abbrev pub refusal : Walk → Option Refusal
-refusal (ended at) = none
-refusal (refused at r) = some r
-refusal (stepped at bytes i w) = refusal w
+abbrev pub refusalOf : Walk → Option Refusal
+refusalOf (ended at) = none
+refusalOf (refused at r) = some r
+refusalOf (stepped at bytes i w) = refusalOf w

@@ -1,12 +1,12 @@
 -- Laws of words and the bytes that spell them, and the steps of filling the one from the other.
 use mathlib.Core.Path.{_≡_, refl, ap, ap₂, _∙_}
 use mathlib.Core.List.{List, [], _∷_, _++_, append-nil}
-use Prim.Native.Nat.{ℕ, zero, suc, _+_, _*_, _/_, _<_}
+use Prim.Native.Nat.{ℕ, zero, suc, _+_, _*_, _/_, _^_, _≤_, _<_}
 use native.Mathlib.Omega.{arith}
 use lib.ListN.{length, getD, drop, set, drop-of-length-le, length-append}
 use lib.Seq.{sets, sets-eq, drop-cons}
 use Rattle.bits.specs.Word.{le, bytesOf}
-use Rattle.bits.proofs.Laws.{Bytes, bytes-le}
+use Rattle.bits.proofs.Laws.{Bytes, bytes-le, le-bytes}
 use Rattle.words.specs.Spelling.{wordsOf, bytesFor}
 
 pub length-words : (s : List ℕ) → length (wordsOf s) ≡ length s / 4
@@ -37,6 +37,19 @@ bytes-words (a ∷ b ∷ c ∷ d ∷ s) (suc n) h e =
     first (suc (suc zero)) = h 2
     first (suc (suc (suc zero))) = h 3
     first (suc (suc (suc (suc k)))) = omega arith
+
+-- the words that the bytes of words spell
+pub words-bytes : (words : List ℕ) → ((k : ℕ) → getD words k 0 < 2 ^ 32) → wordsOf (bytesFor words) ≡ words
+words-bytes [] h = refl
+words-bytes (w ∷ words) h = ap₂ (λ (x : ℕ) (s : List ℕ). x ∷ s) (le-bytes 4 w (h 0)) (words-bytes words (λ k. h (suc k)))
+
+-- past the end of a list stand zeros
+pub all-fit : (words : List ℕ) (i : ℕ) → length words ≤ i → ((k : ℕ) → k < i → getD words k 0 < 2 ^ 32)
+    → (k : ℕ) → getD words k 0 < 2 ^ 32
+all-fit [] i h f k = omega arith
+all-fit (w ∷ words) zero h f k = absurd (omega arith)
+all-fit (w ∷ words) (suc i) h f zero = f 0 (omega arith)
+all-fit (w ∷ words) (suc i) h f (suc k) = all-fit words i (omega arith) (λ j g. f (suc j) (omega arith)) k
 
 -- ---- one step of filling
 

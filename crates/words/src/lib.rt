@@ -25,10 +25,10 @@ pub fn load(bytes: &[u8], words: &mut [u32])
     }
 }
 
-// Fills the bytes with those of the words.
+// Fills the bytes with those of the words, and they spell the words again.
 pub fn store(words: &[u32], bytes: &mut [u8])
     requires { ⌜ length (now bytes) ≡ 4 * length (now words) ⌝ }
-    ensures { λ _. ⌜ now (bytes .exit) ≡ bytesFor (now (words .entry)) ⌝ }
+    ensures { λ _. ⌜ (now (bytes .exit) ≡ bytesFor (now (words .entry))) × (wordsOf (now (bytes .exit)) ≡ now (words .entry)) ⌝ }
 {
     let mut i = 0;
     while i < words.len() {

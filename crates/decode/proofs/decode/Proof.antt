@@ -20,17 +20,13 @@ returns c =
 
 returns-2 : tie.Need-returns-2
 returns-2 c =
-    decoded (c .before .before .before .before .before .before .args .code .now) (λ j. c .before .before .before .before .before .shared-slice-known .given j .fits) _ _ _ (c .before .before .before .before .word .ensures)
-    (c .before .before .before .held .ensures) (c .before .before .find-first .ensures .0) _ (c .enum-told .given .1)
-
-returns-3 : tie.Need-returns-3
-returns-3 c =
-    decoded (c .before .before .before .before .before .before .args .code .now) (λ j. c .before .before .before .before .before .shared-slice-known .given j .fits) _ _ _ (c .before .before .before .before .word .ensures)
-    (c .before .before .before .held .ensures) (c .before .before .find-first .ensures .0) _ (c .enum-told2 .given .1)
+    let m = c .before .before .before in
+    decoded (m .before .before .before .before .args .code .now) (λ j. m .before .before .before .shared-slice-known .given j .fits) _ _ _ (m .before .before .word .ensures)
+    (m .before .held .ensures) (m .find-first .ensures .0) _ (c .before .r .given .1)
 
 pub decode-spec : {M : Type 1} → statement M
 decode-spec =
     tie.close
     (tie.spec
     (λ c κs. search needs) (λ c κs. search needs) (λ c κs. search needs) (λ c. search needs) ones-of-requires read-requires
-    (λ c κs. search needs) (λ c. search needs) (λ c. search needs) returns returns-2 returns-3)
+    (λ c κs. search needs) (λ c. search needs) returns returns-2)

@@ -13,34 +13,37 @@ returns c =
 
 returns-2 : tie.Need-returns-2
 returns-2 c =
-    let a = c .before .before .before .before .before .args in
-    no-room (a .code .now) (a .offset) (a .instruction .now) _ (c .before .before .if1 .left) (c .before .if2 .taken)
-    (handed-on (c .refused2 .result) (c .refused2 .ok) ∙ c .refused2 .ensures)
+    let m = c .before .before .before in
+    let a = m .before .before .before .before .before .before .before .args in
+    no-room (a .code .now) (a .offset) (a .instruction .now) _ (m .before .before .before .before .if1 .left) _ (m .before .before .decode .ensures)
+    _ _ (m .i .given .1) (c .before .if2 .taken) (handed-on (c .refused2 .result) (c .refused2 .ok) ∙ c .refused2 .ensures)
 
 count-requires : tie.Need-count-requires
 count-requires c κs =
-    let m = c .before .before .before .before .before .before .before in
-    let a = m .before .before .before .before .before .before .before .before .args in
-    small (a .code .now) (a .offset) (m .before .before .before .before .before .if1 .left) _ (m .before .before .decode .ensures) _ _ (m .i .given .1)
+    let m = c .before .before .before .before .before .before .before .before in
+    let a = m .before .before .before .before .before .before .before .args in
+    small (a .code .now) (a .offset) (m .before .before .before .before .if1 .left) _ (m .before .before .decode .ensures) _ _ (m .i .given .1)
 
 returns-3 : tie.Need-returns-3
 returns-3 c =
-    let m = c .before .before .before .before .before .before .before .before in
-    let a = m .before .before .before .before .before .before .before .before .args in
-    found (a .code .now) (a .offset) (a .instruction .now) _ (m .before .before .before .before .before .if1 .left) _ (m .before .before .decode .ensures) (m .before .before .before .before .if2 .left)
-    _ _ (m .i .given .1) (handed-on (c .count .result) (c .count .ok) ∙ c .count .ensures) _ _ (c .before .before .before .before .before .before .to-bytes .ensures) (c .before .before .before .put .ensures)
+    let f = c .before .before .before .before .before .before in
+    let m = f .before .before .before in
+    let a = m .before .before .before .before .before .before .before .args in
+    found (a .code .now) (a .offset) (a .instruction .now) _ (m .before .before .before .before .if1 .left) _ (m .before .before .decode .ensures)
+    _ _ (m .i .given .1) (f .before .if2 .left) (handed-on (c .count .result) (c .count .ok) ∙ c .count .ensures) _ _ (f .to-bytes .ensures)
+    (c .before .before .before .put .ensures)
 
 returns-4 : tie.Need-returns-4
 returns-4 c =
     let m = c .before .before in
-    let a = m .before .before .before .before .before .before .before .before .args in
-    refused (a .code .now) (a .offset) (a .instruction .now) _ (m .before .before .before .before .before .if1 .left) _ (m .before .before .decode .ensures) (m .before .before .before .before .if2 .left)
+    let a = m .before .before .before .before .before .before .before .args in
+    refused (a .code .now) (a .offset) (a .instruction .now) _ (m .before .before .before .before .if1 .left) _ (m .before .before .decode .ensures)
     _ (m .r .given .1) (handed-on (c .refused3 .result) (c .refused3 .ok) ∙ c .refused3 .ensures)
 
 pub decode-at-spec : {M : Type 1} → statement M
 decode-at-spec =
     tie.close
     (tie.spec
-    (λ c κs. search needs) returns (λ c κs. search needs) returns-2 (λ c. search needs) (λ c. search needs) (λ c. search needs)
-    (λ c κs. search needs) (λ c. search needs) (λ c κs. search needs) (λ c. search needs) (λ c κs. search needs) count-requires
-    (λ c. search needs) (λ c κs. search needs) (λ c. search needs) returns-3 returns-4)
+    (λ c κs. search needs) returns (λ c. search needs) (λ c. search needs) (λ c. search needs) (λ c κs. search needs)
+    (λ c. search needs) (λ c κs. search needs) returns-2 (λ c κs. search needs) (λ c. search needs) (λ c κs. search needs)
+    count-requires (λ c. search needs) (λ c κs. search needs) (λ c. search needs) returns-3 returns-4)

@@ -9,7 +9,7 @@ use Rattle.isa.specs.Refusal.{numberOf}
 use Rattle.lines.specs.Line.{refusedLine}
 use Rattle.hex.specs.Hex.{digit, hexAddress}
 use Rattle.bits.proofs.Pieces.{after}
-use Rattle.lines.proofs.Lengths.{number-below}
+use Rattle.isa.proofs.Numbers.{number-below}
 use borrow.Author.Needs.{needs}
 use Rattle.lines.proofs.put_refused.Statement.{statement}
 use Rattle.lines.proofs.put_refused.Tie as tie

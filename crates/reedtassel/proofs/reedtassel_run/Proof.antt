@@ -8,7 +8,11 @@ use Rattle.reedtassel.proofs.reedtassel_run.Tie as tie
 returns : tie.Need-returns
 returns c =
     let e = c .before .before .before .before .before .before .before .run .ensures in
-    record { returns = handed-on (c .ended .result) (c .ended .ok) ∙ c .ended .ensures ∙ ap endedBy (e .ends); leaves = e .leaves }
+    record {
+      returns = handed-on (c .ended .result) (c .ended .ok) ∙ c .ended .ensures ∙ ap endedBy (e .ends);
+      leaves = e .leaves;
+      threads = e .threads;
+    }
 
 pub reedtassel-run-spec : {M : Type 1} → statement M
 reedtassel-run-spec =

@@ -18,7 +18,7 @@ returns-2 c =
     let l = lentOf (a .code .now) (a .registers .now) (a .uniforms .now) (a .specials .now) (a .start) (a .mask) (a .budget) (a .records .now) (a .answer .now) in
     not-arranged l _ (c .before .before .before .spelled .ensures) (c .before .before .if1 .left) _ (c .before .arranged .ensures) (c .if2 .taken)
 
--- past both tests the call is callTaken
+-- past both tests the call is taken
 abbrev called : tie.Else2 → Lent
 called c =
     let a = c .before .before .before .before .before .before .before .before .before .before .args in

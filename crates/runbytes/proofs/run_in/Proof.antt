@@ -33,7 +33,7 @@ returns c =
     let z = l .before .before .before .before .before .before .before .before .before .before .before .before in
     let a = z .args in
     runs (lentOf (a .code .now) (a .registers .now) (a .uniforms .now) (a .specials .now) (a .start) (a .mask) (a .budget) (a .records .now) (a .answer .now))
-    (z .pre) _ _ _ (l .load .ensures) (m .before .before .before .before .load2 .ensures) (m .load3 .ensures) _ _ _ (g .run .ensures) _ _ _ (s .store .ensures)
+    (z .pre) _ _ _ (l .load .ensures) (m .before .before .before .before .load2 .ensures) (m .load3 .ensures) _ _ _ (g .run .ensures) (omega arith) _ _ _ (s .store .ensures)
     (p .before .before .before .bytes .ensures) (p .put .ensures)
 
 pub run-in-spec : {M : Type 1} → statement M

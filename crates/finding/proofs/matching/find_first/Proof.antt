@@ -5,6 +5,7 @@ use mathlib.Core.Logic.{⊎-elim}
 use Prim.Native.Nat.{ℕ, _-_, _≤_, _<_}
 use native.Mathlib.Omega.{arith}
 use lib.ListN.{drop, length}
+use Rattle.isa.specs.Refusal.{refusal}
 use Rattle.isa.specs.Find.{forms}
 use Rattle.isa.specs.declared.answer.Find.{Find}
 use Rattle.finding.specs.First.{firstOf}
@@ -54,17 +55,17 @@ loop-again c =
       (c .if1 .came),
       l .loop .inv .2)
 
-ended : (c : tie.After-loop Inv-loop μ-loop) → cond (c .before .loop .more) Find.CutShort Find.NoDiagram
+ended : (c : tie.After-loop Inv-loop μ-loop) → cond (c .before .loop .more) (Find.Refused (refusal 2)) (Find.Refused (refusal 3))
     ≡ firstOf forms false (c .before .before .before .args .w) (c .before .before .before .args .n)
 ended c =
     let h : length forms ≤ c .before .loop .i = rw length-forms (c .loop-test .left) in
     sym (ends forms _ _ _ (c .before .loop .more) h) ∙ c .before .loop .inv .1
 
 returns-2 : tie.Need-returns-2 Inv-loop μ-loop
-returns-2 c = (sym (ap (λ (b : Bool). cond b Find.CutShort Find.NoDiagram) (c .if3 .taken)) ∙ ended (c .before), tt)
+returns-2 c = (sym (ap (λ (b : Bool). cond b (Find.Refused (refusal 2)) (Find.Refused (refusal 3))) (c .if3 .taken)) ∙ ended (c .before), tt)
 
 returns-3 : tie.Need-returns-3 Inv-loop μ-loop
-returns-3 c = (sym (ap (λ (b : Bool). cond b Find.CutShort Find.NoDiagram) (c .if3 .left)) ∙ ended (c .before), tt)
+returns-3 c = (sym (ap (λ (b : Bool). cond b (Find.Refused (refusal 2)) (Find.Refused (refusal 3))) (c .if3 .left)) ∙ ended (c .before), tt)
 
 pub find-first-spec : {M : Type 1} → statement M
 find-first-spec =
