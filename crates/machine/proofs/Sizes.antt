@@ -17,12 +17,12 @@ pub record Columns (fewest most : ℕ) (words : List ℕ) : Type 0 where
   pub greatest : length words ≤ 32 * most
 
 pub record Sizes (c : Call) : Type 0 where
-  pub code : length (c .code) ≤ codeLimit
+  pub code : length (c .code) ≤ 8192
   pub registers : Columns 1 128 (c .registers)
   pub uniforms : length (c .uniforms) ≡ 256
   pub specials : Columns 0 256 (c .specials)
   pub some : 1 ≤ c .budget
-  pub budget : c .budget ≤ budgetLimit
+  pub budget : c .budget ≤ 4096
   pub even : c .start % 2 ≡ 0
   pub inside : c .start ≤ length (c .code)
   pub room : 16 * c .budget ≤ length (c .records)
