@@ -1,6 +1,7 @@
 """The built instructions of document 002 and the run of 01, transcribed into Python, whose integers are unbounded.
 
-It is written from the two papers alone and shares nothing with the other programs of this repository. A diagram below is the row
+It is written from the two papers, and from docs/DECISIONS.md, entry 1, for the section on operands that the copy of document 002 lacks; it
+shares no code with the other programs of this repository. A diagram below is the row
 that document 002 prints, most significant bit first: `Dx{2}` is a field of two bits, `?` an unknown bit. The lines that describe
 operands are the document's own, and so is the pseudocode, with its indentation restored. It is slow and meant to be laid beside
 the page.

@@ -170,9 +170,9 @@ abbrev shifts : ℕ → ℕ → ℕ → Instruction → ℕ → Example
 shifts b3 b4 b7 i v =
     writes (0x2E ∷ 0x85 ∷ 0x44 ∷ b3 ∷ b4 ∷ 0x00 ∷ 0x00 ∷ b7 ∷ []) i 8 3 (with 2 0x80000000 any) 0 (with 1 v (with 2 0x80000000 any))
 
--- r0l 3 in thread 31 and 0 elsewhere
+-- r0l 3 in thread 31 and 0 elsewhere; the high half tells the thread
 abbrev nested : ℕ → ℕ → ℕ
-nested q t = 0xABCD0000 + cond (eqb t 31) 3 0
+nested q t = 65536 * t + cond (eqb t 31) 3 0
 
 -- ---- the list
 

@@ -16,7 +16,7 @@ numberOf Refusal.BadTarget = 7
 numberOf Refusal.NoEncoding = 8
 numberOf Refusal.ShortBuffer = 9
 
--- the first of some refusals that has the number n
+-- the first of some refusals that has the number n; the last, where none has
 abbrev firstWith : ℕ → Refusal → List Refusal → Refusal
 firstWith n r [] = r
 firstWith n r (q ∷ qs) = cond (eqb (numberOf r) n) r (firstWith n q qs)

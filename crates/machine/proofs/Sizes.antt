@@ -1,10 +1,10 @@
--- What it says of the numbers that a call is arranged.
+-- A call is arranged exactly where its sizes are those of "Sizes of what is lent".
 use mathlib.Core.Path.{_≡_}
 use mathlib.Core.Bool.{Bool, true, false}
 use mathlib.Core.List.{List}
 use Prim.Native.Nat.{ℕ, _*_, _%_, _≤_}
 use native.Mathlib.Omega.{arith}
-use borrow.Author.Tests.{eqb-true, leb-true}
+use borrow.Author.Tests.{eqb-true, leb-true, eq-eqb, le-leb}
 use lib.Dec.{eqb, leb}
 use lib.ListN.{length}
 use Rattle.machine.specs.Meaning.{both}
@@ -60,3 +60,12 @@ sizes c e =
       inside = leb-true _ _ (inside .0);
       room = leb-true _ _ (inside .1);
     }
+
+has-columns : (fewest most : ℕ) (words : List ℕ) → Columns fewest most words → columns fewest most words ≡ true
+has-columns fewest most words s = rw (eq-eqb _ _ (s .whole), le-leb _ _ (s .least), le-leb _ _ (s .greatest))
+
+pub sized : (c : Call) → Sizes c → arranged c ≡ true
+unfolding arranged
+sized c s =
+    rw (le-leb _ _ (s .code), has-columns 1 128 (c .registers) (s .registers), eq-eqb _ _ (s .uniforms), has-columns 0 256 (c .specials) (s .specials),
+      le-leb _ _ (s .some), le-leb _ _ (s .budget), eq-eqb _ _ (s .even), le-leb _ _ (s .inside), le-leb _ _ (s .room))

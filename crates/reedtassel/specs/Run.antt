@@ -1,5 +1,5 @@
--- The exported run, reedtassel_run of docs/c-interface.md: it returns how the run on bytes ended, and leaves what that leaves; the threads
--- by themselves come to the same.
+-- The exported run, reedtassel_run of docs/c-interface.md: it returns how the run on bytes ended, and leaves what that leaves; where
+-- the call is taken, the threads by themselves come to the same.
 use Prim.Native.Nat.{ℕ}
 use mathlib.Core.Path.{_≡_}
 use mathlib.Core.List.{List}

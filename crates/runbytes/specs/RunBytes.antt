@@ -1,6 +1,7 @@
--- A run whose registers, uniforms and special registers are lent as little-endian bytes, as docs/c-interface.md describes it: it ends and
--- leaves what the run on the words that the bytes spell does, with the answer as 24 bytes. Refusal 1 is also for a length that is no
--- multiple of four, and for an answer that has no room; then nothing is written. The threads by themselves come to what it leaves.
+-- A run whose registers, uniforms and special registers are lent as little-endian bytes, as docs/c-interface.md describes it. Refusal 1
+-- is also for a length that is no multiple of four, and for an answer that has no room; refused with 1, for whatever reason, nothing is
+-- written. A call that is taken ends and leaves what the run on the words that the bytes spell does, with the answer as 24 bytes, and the
+-- threads by themselves come to that.
 use Prim.Native.Nat.{ℕ}
 use mathlib.Core.Path.{_≡_}
 use mathlib.Core.Bool.{Bool, true, cond}
