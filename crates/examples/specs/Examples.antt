@@ -96,8 +96,8 @@ abbrev answers : Ending → ℕ → ℕ → ℕ → Answer
 answers ending steps address mask = record { ending = ending; steps = steps; address = address; mask = mask }
 
 -- one step to the end of the code: its class, the mask before and after, and the registers after it
-abbrev steps : List ℕ → Instruction → ℕ → ℕ → ℕ → ℕ → ℕ → (ℕ → ℕ → ℕ) → ℕ → (ℕ → ℕ → ℕ) → Example
-steps code i bytes class mask next n f k g =
+abbrev oneStep : List ℕ → Instruction → ℕ → ℕ → ℕ → ℕ → ℕ → (ℕ → ℕ → ℕ) → ℕ → (ℕ → ℕ → ℕ) → Example
+oneStep code i bytes class mask next n f k g =
     record {
       call = calls code n f k mask 1 32;
       outcome = record {
@@ -109,8 +109,8 @@ steps code i bytes class mask next n f k g =
     }
 
 -- a data instruction, all active
-abbrev writes : List ℕ → Instruction → ℕ → ℕ → (ℕ → ℕ → ℕ) → ℕ → (ℕ → ℕ → ℕ) → Example
-writes code i bytes n f k g = steps code i bytes 1 allActive allActive n f k g
+abbrev dataStep : List ℕ → Instruction → ℕ → ℕ → (ℕ → ℕ → ℕ) → ℕ → (ℕ → ℕ → ℕ) → Example
+dataStep code i bytes n f k g = oneStep code i bytes 1 allActive allActive n f k g
 
 -- no step: finished or refused at once
 abbrev stays : List ℕ → Decoded → ℕ → ℕ → ℕ → ℕ → Ending → Example
@@ -128,28 +128,28 @@ refuses code d n k number = stays code d n k 1 32 (Ending.Refused (refusal numbe
 
 -- ---- instructions and registers
 
-abbrev to : Destination → Dst
-to d = record { destination = d; hint = Hint.None }
+abbrev into : Destination → Dst
+into d = record { destination = d; hint = Hint.None }
 
 abbrev of : Source → Src
 of s = record { source = s; hint = Hint.None }
 
 -- of half h, with L and the "?" bits
 abbrev mov16 : ℕ → ℕ → ℕ → Instruction
-mov16 h l kept = Instruction.Mov16 (to (Destination.Half h)) 0x1234 l kept
+mov16 h l kept = Instruction.Mov16 (into (Destination.Half h)) 0x1234 l kept
 
 abbrev mov32 : Instruction
-mov32 = Instruction.Mov32 (to (Destination.Register 1)) 0x12345678 0 0
+mov32 = Instruction.Mov32 (into (Destination.Register 1)) 0x12345678 0 0
 
 -- r2 from special register k
 abbrev getSr : ℕ → Instruction
-getSr k = Instruction.GetSr (to (Destination.Register 2)) k 0
+getSr k = Instruction.GetSr (into (Destination.Register 2)) k 0
 
 -- r1 from r2, shifted by an immediate
 abbrev by : ℕ → Shift
 by n =
     record {
-      operands = record { d = to (Destination.Register 1); a = of (Source.Register 2); b = of (Source.Immediate n) };
+      operands = record { d = into (Destination.Register 1); a = of (Source.Register 2); b = of (Source.Immediate n) };
       kept = 0;
     }
 
@@ -168,7 +168,7 @@ withSpecial k q t = cond (eqb q 2) (any k t) (any q t)
 -- a shift of r2 = 80000000 hex into r1, which gives v
 abbrev shifts : ℕ → ℕ → ℕ → Instruction → ℕ → Example
 shifts b3 b4 b7 i v =
-    writes (0x2E ∷ 0x85 ∷ 0x44 ∷ b3 ∷ b4 ∷ 0x00 ∷ 0x00 ∷ b7 ∷ []) i 8 3 (with 2 0x80000000 any) 0 (with 1 v (with 2 0x80000000 any))
+    dataStep (0x2E ∷ 0x85 ∷ 0x44 ∷ b3 ∷ b4 ∷ 0x00 ∷ 0x00 ∷ b7 ∷ []) i 8 3 (with 2 0x80000000 any) 0 (with 1 v (with 2 0x80000000 any))
 
 -- r0l 3 in thread 31 and 0 elsewhere; the high half tells the thread
 abbrev nested : ℕ → ℕ → ℕ
@@ -179,18 +179,18 @@ nested q t = 65536 * t + cond (eqb t 31) 3 0
 -- `mask` is the mask before pop_exec 0, "whatever it was"
 abbrev pub examples : ℕ → List Example
 examples mask =
-    writes (0x62 ∷ 0x04 ∷ 0x34 ∷ 0x12 ∷ []) (mov16 2 0 0) 4 2 any 0 (withLow 1 0x1234)
-    ∷ writes (0x62 ∷ 0x05 ∷ 0x78 ∷ 0x56 ∷ 0x34 ∷ 0x12 ∷ []) mov32 6 2 any 0 (with 1 0x12345678 any)
-    ∷ writes (0x62 ∷ 0x84 ∷ 0x34 ∷ 0x12 ∷ 0x00 ∷ 0x00 ∷ []) (mov16 2 1 0) 6 2 any 0 (withLow 1 0x1234)
-    ∷ writes (0x62 ∷ 0x84 ∷ 0x34 ∷ 0x12 ∷ 0xFF ∷ 0xCF ∷ []) (mov16 2 1 0xCFFF00000000) 6 2 any 0 (withLow 1 0x1234)
-    ∷ writes (0x62 ∷ 0x84 ∷ 0x34 ∷ 0x12 ∷ 0x00 ∷ 0x10 ∷ []) (mov16 66 1 0) 6 34 any 0 (withLow 33 0x1234)
+    dataStep (0x62 ∷ 0x04 ∷ 0x34 ∷ 0x12 ∷ []) (mov16 2 0 0) 4 2 any 0 (withLow 1 0x1234)
+    ∷ dataStep (0x62 ∷ 0x05 ∷ 0x78 ∷ 0x56 ∷ 0x34 ∷ 0x12 ∷ []) mov32 6 2 any 0 (with 1 0x12345678 any)
+    ∷ dataStep (0x62 ∷ 0x84 ∷ 0x34 ∷ 0x12 ∷ 0x00 ∷ 0x00 ∷ []) (mov16 2 1 0) 6 2 any 0 (withLow 1 0x1234)
+    ∷ dataStep (0x62 ∷ 0x84 ∷ 0x34 ∷ 0x12 ∷ 0xFF ∷ 0xCF ∷ []) (mov16 2 1 0xCFFF00000000) 6 2 any 0 (withLow 1 0x1234)
+    ∷ dataStep (0x62 ∷ 0x84 ∷ 0x34 ∷ 0x12 ∷ 0x00 ∷ 0x10 ∷ []) (mov16 66 1 0) 6 34 any 0 (withLow 33 0x1234)
     ∷ refuses (0x62 ∷ 0x84 ∷ 0x34 ∷ 0x12 ∷ 0x00 ∷ 0x10 ∷ []) (Decoded.Found (mov16 66 1 0) 6) 33 0 5
     ∷ refuses (0x62 ∷ 0x84 ∷ 0x34 ∷ 0x12 ∷ []) (Decoded.Refused (refusal 2)) 2 0 2
     ∷ refuses (0x62 ∷ 0x04 ∷ 0x34 ∷ []) (Decoded.Refused (refusal 2)) 2 0 2
     ∷ refuses (0x62 ∷ []) (Decoded.Refused (refusal 2)) 2 0 2
-    ∷ writes (0x72 ∷ 0x09 ∷ 0x05 ∷ 0x00 ∷ []) (getSr 5) 4 3 any 6 (withSpecial 5)
+    ∷ dataStep (0x72 ∷ 0x09 ∷ 0x05 ∷ 0x00 ∷ []) (getSr 5) 4 3 any 6 (withSpecial 5)
     ∷ refuses (0x72 ∷ 0x09 ∷ 0x05 ∷ 0x00 ∷ []) (Decoded.Found (getSr 5) 4) 3 5 6
-    ∷ writes (0x72 ∷ 0x09 ∷ 0x05 ∷ 0x04 ∷ []) (getSr 69) 4 3 any 70 (withSpecial 69)
+    ∷ dataStep (0x72 ∷ 0x09 ∷ 0x05 ∷ 0x04 ∷ []) (getSr 69) 4 3 any 70 (withSpecial 69)
     ∷ refuses (0x72 ∷ 0x09 ∷ 0x05 ∷ 0x04 ∷ []) (Decoded.Found (getSr 69) 4) 3 69 6
     -- asr by 31, 127 and 128
     ∷ shifts 0xF6 0x01 0x00 (Instruction.Asr (by 31)) 0xFFFFFFFF
@@ -202,7 +202,7 @@ examples mask =
     ∷ shifts 0x0E 0x02 0x00 (Instruction.Asrh (by 32)) 0x80000000
     ∷ shifts 0x1E 0x02 0x00 (Instruction.Asrh (by 33)) 0xC0000000
     ∷ shifts 0xFE 0x03 0x01 (Instruction.Asrh (by 127)) 0xFFFFFFFF
-    ∷ steps (0x52 ∷ 0x06 ∷ 0x00 ∷ 0x00 ∷ 0x00 ∷ 0x00 ∷ []) (Instruction.PopExec Hint.None 0 0) 6 2 mask 0x7FFFFFFF 1 nested 0 nested
+    ∷ oneStep (0x52 ∷ 0x06 ∷ 0x00 ∷ 0x00 ∷ 0x00 ∷ 0x00 ∷ []) (Instruction.PopExec Hint.None 0 0) 6 2 mask 0x7FFFFFFF 1 nested 0 nested
     -- empty code; budgets 0 and 4,097, with room for as many records
     ∷ stays [] (Decoded.Refused (refusal 2)) 1 0 1 32 Ending.Finished
     ∷ stays (0x62 ∷ 0x04 ∷ 0x34 ∷ 0x12 ∷ []) (Decoded.Found (mov16 2 0 0) 4) 2 0 0 32 (Ending.Refused (refusal 1))

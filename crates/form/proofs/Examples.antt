@@ -55,6 +55,6 @@ subBytes =
 abbrev Worked : List ℕ → Instruction → ℕ → List ℕ → Type 0
 Worked code i n b = (decodeOf code ≡ Decoded.Found i n) × (formOf i ≡ b) × (spelledOf b ≡ Spelled.Is i)
 
-pub examples-hold : Worked movCode mov 6 movBytes × Worked subCode sub 8 subBytes
+pub forms-hold : Worked movCode mov 6 movBytes × Worked subCode sub 8 subBytes
 unfolding rows forms decodeOf destinationOf sourceOf uniformOf unary binary withDst withBinary partsOf lengthFor instructionFrom spelledOf
-examples-hold = ((refl, refl, refl), (refl, refl, refl))
+forms-hold = ((refl, refl, refl), (refl, refl, refl))

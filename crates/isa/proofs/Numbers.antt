@@ -6,11 +6,11 @@ use lib.Dec.{lit<}
 use Rattle.isa.specs.Refusal.{numberOf, refusal}
 use Rattle.isa.specs.declared.answer.Refusal.{Refusal}
 
-abbrev numbers : List ℕ
-numbers = 1 ∷ 2 ∷ 3 ∷ 4 ∷ 5 ∷ 6 ∷ 7 ∷ 8 ∷ 9 ∷ []
+abbrev oneToNine : List ℕ
+oneToNine = 1 ∷ 2 ∷ 3 ∷ 4 ∷ 5 ∷ 6 ∷ 7 ∷ 8 ∷ 9 ∷ []
 
-pub numbered : map (λ (n : ℕ). numberOf (refusal n)) numbers ≡ numbers
-numbered = refl
+pub refusal-numbers : map (λ (n : ℕ). numberOf (refusal n)) oneToNine ≡ oneToNine
+refusal-numbers = refl
 
 -- no refusal is without one
 pub of-number : (r : Refusal) → refusal (numberOf r) ≡ r

@@ -35,7 +35,7 @@ module _ (l : Lent) {r u s : ℕ} (h : Space l r u s) where
       let t = h .is-taken in
       let left : answer ≡ answerBytes a ++ drop answerLength (l .answer) =
             g ∙ ap (sets (l .answer) 0) f ∙ put-first (l .answer) (answerBytes a) answerLength refl (h .answer-fits) in
-      let m = mask-fits (spelledCall l) a (q .answers) fits in
+      let mask-is : maskIn answer ≡ a .mask = ap maskIn left ∙ le-bytes 4 (a .mask) (mask-fits (spelledCall l) a (q .answers) fits) in
       record {
         ran =
             record {
@@ -46,7 +46,7 @@ module _ (l : Lent) {r u s : ℕ} (h : Space l r u s) where
                     records-left = rw t (q .writes);
                     answer-left = rw t (left ∙ ap (λ (x : Answer). answerBytes x ++ drop answerLength (l .answer)) (q .answers));
                   };
-              threads = λ taken. rw (e .1, left, le-bytes 4 (a .mask) m) (q .threads);
+              threads = λ taken. rw (e .1, mask-is) (q .threads);
             };
         register-words = q .leaves;
         uniform-words = eu;
