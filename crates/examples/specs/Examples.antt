@@ -6,7 +6,6 @@ use mathlib.Core.Option.{Option, none, some}
 use Prim.Native.Nat.{ℕ, zero, suc, _+_, _*_, _/_, _%_}
 use lib.Dec.{eqb}
 use lib.ListN.{replicate, drop}
-use Rattle.bits.specs.Word.{bytesOf}
 use Rattle.isa.specs.Refusal.{refusal}
 use Rattle.isa.specs.Decode.{decodeOf}
 use Rattle.isa.specs.declared.operand.Destination.{Destination}
@@ -78,9 +77,6 @@ words n f = wordsFrom (32 * n) 0 f
 abbrev any : ℕ → ℕ → ℕ
 any r t = 0xABCD0000 + 256 * r + t
 
-abbrev allActive : ℕ
-allActive = 0xFFFFFFFF
-
 abbrev room : ℕ → List ℕ
 room n = replicate n 0xEE
 
@@ -95,16 +91,24 @@ calls code n f k mask budget bytes =
 abbrev answers : Ending → ℕ → ℕ → ℕ → Answer
 answers ending steps address mask = record { ending = ending; steps = steps; address = address; mask = mask }
 
+-- a mask with its bytes, as a record has them
+pub record Mask : Type 0 where
+  pub value : ℕ
+  pub spelled : List ℕ
+
+abbrev allActive : Mask
+allActive = record { value = 0xFFFFFFFF; spelled = 0xFF ∷ 0xFF ∷ 0xFF ∷ 0xFF ∷ [] }
+
 -- one step to the end of the code: its class, the mask before and after, and the registers after it
-abbrev oneStep : List ℕ → Instruction → ℕ → ℕ → ℕ → ℕ → ℕ → (ℕ → ℕ → ℕ) → ℕ → (ℕ → ℕ → ℕ) → Example
-oneStep code i bytes class mask next n f k g =
+abbrev oneStep : List ℕ → Instruction → ℕ → ℕ → Mask → Mask → ℕ → (ℕ → ℕ → ℕ) → ℕ → (ℕ → ℕ → ℕ) → Example
+oneStep code i bytes class before after n f k g =
     record {
-      call = calls code n f k mask 1 32;
+      call = calls code n f k (before .value) 1 32;
       outcome = record {
         decoded = Decoded.Found i bytes; encoded = itself (Decoded.Found i bytes) code;
-        answer = answers Ending.Finished 1 bytes next;
+        answer = answers Ending.Finished 1 bytes (after .value);
         registers = words n g;
-        records = (0 ∷ 0 ∷ bytes ∷ class ∷ []) ++ bytesOf 4 mask ++ bytesOf 4 next ++ (0 ∷ 0 ∷ 0 ∷ 0 ∷ []) ++ room 16;
+        records = (0 ∷ 0 ∷ bytes ∷ class ∷ []) ++ before .spelled ++ after .spelled ++ (0 ∷ 0 ∷ 0 ∷ 0 ∷ []) ++ room 16;
       };
     }
 
@@ -116,10 +120,10 @@ dataStep code i bytes n f k g = oneStep code i bytes 1 allActive allActive n f k
 abbrev stays : List ℕ → Decoded → ℕ → ℕ → ℕ → ℕ → Ending → Example
 stays code d n k budget bytes ending =
     record {
-      call = calls code n any k allActive budget bytes;
+      call = calls code n any k (allActive .value) budget bytes;
       outcome = record {
         decoded = d; encoded = itself d code;
-        answer = answers ending 0 0 allActive; registers = words n any; records = room bytes;
+        answer = answers ending 0 0 (allActive .value); registers = words n any; records = room bytes;
       };
     }
 
@@ -174,6 +178,13 @@ shifts b3 b4 b7 i v =
 abbrev nested : ℕ → ℕ → ℕ
 nested q t = 65536 * t + cond (eqb t 31) 3 0
 
+-- any mask, and the one that pop_exec 0 makes of it
+abbrev anyMask : ℕ → Mask
+anyMask m = record { value = m; spelled = m % 256 ∷ m / 256 % 256 ∷ m / 256 / 256 % 256 ∷ m / 256 / 256 / 256 % 256 ∷ [] }
+
+abbrev but31 : Mask
+but31 = record { value = 0x7FFFFFFF; spelled = 0xFF ∷ 0xFF ∷ 0xFF ∷ 0x7F ∷ [] }
+
 -- ---- the list
 
 -- `mask` is the mask before pop_exec 0, "whatever it was"
@@ -202,7 +213,7 @@ examples mask =
     ∷ shifts 0x0E 0x02 0x00 (Instruction.Asrh (by 32)) 0x80000000
     ∷ shifts 0x1E 0x02 0x00 (Instruction.Asrh (by 33)) 0xC0000000
     ∷ shifts 0xFE 0x03 0x01 (Instruction.Asrh (by 127)) 0xFFFFFFFF
-    ∷ oneStep (0x52 ∷ 0x06 ∷ 0x00 ∷ 0x00 ∷ 0x00 ∷ 0x00 ∷ []) (Instruction.PopExec Hint.None 0 0) 6 2 mask 0x7FFFFFFF 1 nested 0 nested
+    ∷ oneStep (0x52 ∷ 0x06 ∷ 0x00 ∷ 0x00 ∷ 0x00 ∷ 0x00 ∷ []) (Instruction.PopExec Hint.None 0 0) 6 2 (anyMask mask) but31 1 nested 0 nested
     -- empty code; budgets 0 and 4,097, with room for as many records
     ∷ stays [] (Decoded.Refused (refusal 2)) 1 0 1 32 Ending.Finished
     ∷ stays (0x62 ∷ 0x04 ∷ 0x34 ∷ 0x12 ∷ []) (Decoded.Found (mov16 2 0 0) 4) 2 0 0 32 (Ending.Refused (refusal 1))
