@@ -3,8 +3,7 @@ use mathlib.Core.Path.{_≡_, refl, sym, ap, _∙_}
 use mathlib.Core.List.{List, [], _∷_}
 use mathlib.Core.Option.{none}
 use Prim.Native.Nat.{ℕ, _+_}
-use native.Mathlib.Nat.{zero-add, le-refl}
-use lib.ListN.{length, take}
+use lib.ListN.{length}
 use Rattle.bits.proofs.Laws.{Bytes}
 use Rattle.isa.specs.Text.{ascii}
 use Rattle.isa.specs.Rows.{rows}
@@ -13,15 +12,12 @@ use Rattle.isa.specs.Operand.{destinationOf}
 use Rattle.isa.specs.Together.{withDst}
 use Rattle.isa.specs.Decode.{decodeOf}
 use Rattle.walk.specs.Walk.{walkFrom, walkOf, shown, stop, refusalOf}
+use Rattle.walk.proofs.Seen.{seen, shown-whole}
 use Rattle.isa.specs.Parts.{partsOf}
 use Rattle.lines.specs.Line.{lineAt, endLine}
 use Rattle.listing.specs.Listing.{textOf, listingOf}
 use Rattle.listing.proofs.Apart.{text-same}
-use Rattle.listing.proofs.Seen.{plain, seen}
-
--- A listing that reaches `end` has shown every byte.
-pub shown-whole : (a : List ℕ) → refusalOf (walkOf a) ≡ none → shown (walkOf a) ≡ a
-shown-whole a e = seen a .whole (le-refl (length a)) e
+use Rattle.listing.proofs.Seen.{plain}
 
 module _ (a b : List ℕ) (bytes-a : Bytes a) (bytes-b : Bytes b) (same : listingOf a ≡ listingOf b) where
   -- Two kernels listed alike show the same bytes, stop at the same address, and have the same refusal or none. What stands at and
@@ -39,10 +35,6 @@ module _ (a b : List ℕ) (bytes-a : Bytes a) (bytes-b : Bytes b) (same : listin
   alike none-a =
       let t = alike-before in
       sym (shown-whole a none-a) ∙ t .0 ∙ shown-whole b (sym (t .2) ∙ none-a)
-
--- The bytes shown are those before the address where the listing stops.
-pub shown-before : (a : List ℕ) → shown (walkOf a) ≡ take (stop (walkOf a)) a
-shown-before a = seen a .before ∙ ap (λ (n : ℕ). take n a) (sym (seen a .place ∙ zero-add (length (shown (walkOf a)))))
 
 -- The example of the statement of what to build.
 pub example : listingOf (0x62 ∷ 0x04 ∷ 0x34 ∷ 0x12 ∷ 0x62 ∷ 0x05 ∷ 0x78 ∷ 0x56 ∷ 0x34 ∷ 0x12 ∷ [])

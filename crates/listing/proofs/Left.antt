@@ -1,13 +1,11 @@
 -- What is left of a listing from an address on: the line that stands there, and what is left from the next address.
 use mathlib.Core.Path.{_≡_, refl, sym, ap, _∙_}
 use mathlib.Core.Bool.{Bool, true, false, cond}
-use mathlib.Core.List.{List, [], _∷_, _++_}
-use Prim.Native.Nat.{ℕ, zero, suc, _+_, _*_, _-_, _≤_, _<_}
-use native.Mathlib.Nat.{not-suc-le-zero}
+use mathlib.Core.List.{List, _++_}
+use Prim.Native.Nat.{ℕ, _+_, _*_, _-_, _≤_, _<_}
 use native.Mathlib.Omega.{arith}
 use lib.Dec.{leb}
 use lib.ListN.{length, take, drop, length-append, length-take, length-drop, drop-of-length-le}
-use lib.Seq.{drop-drop}
 use borrow.Author.Tests.{le-leb, leb-true}
 use Rattle.isa.proofs.Found.{found-length}
 use Rattle.isa.specs.Decode.{decodeOf}
@@ -15,63 +13,12 @@ use Rattle.isa.specs.Refusal.{refusal}
 use Rattle.isa.specs.declared.answer.Refusal.{Refusal}
 use Rattle.isa.specs.declared.answer.Decoded.{Decoded}
 use Rattle.isa.specs.declared.instruction.Instruction.{Instruction}
-use Rattle.walk.specs.Walk.{Walk, refused, stepped, onDecoded, walkFrom, walkOf, standsAt, limit}
+use Rattle.walk.specs.Walk.{Walk, refused, walkFrom, walkOf, standsAt, limit}
+use Rattle.walk.proofs.Steps.{stepBy, walkAll, step-at}
 use Rattle.isa.specs.Parts.{placeOf}
 use Rattle.lines.specs.Line.{lineOf, endLine, refusedLine, tailAt}
 use Rattle.listing.specs.Listing.{textOf, listingOf}
 use Rattle.lines.proofs.Lengths.{length-line}
-
--- ---- the walk, one step at a time
-
--- an instruction with the walk after it, or the refusal
-abbrev pub stepBy : Decoded → (ℕ → List ℕ → Walk) → ℕ → List ℕ → Walk
-stepBy d next at s = onDecoded d (λ i n. stepped at (take n s) i (next (at + n) (drop n s))) (λ r. refused at r)
-
-pub step-all : (P : Walk → Type 0) (d : Decoded) (next : ℕ → List ℕ → Walk) (at : ℕ) (s : List ℕ)
-    → ((i : Instruction) (n : ℕ) → d ≡ Decoded.Found i n → P (stepped at (take n s) i (next (at + n) (drop n s))))
-    → ((r : Refusal) → P (refused at r))
-    → P (stepBy d next at s)
-step-all P (Decoded.Found i n) next at s h k = h i n refl
-step-all P (Decoded.Refused r) next at s h k = k r
-
-step-same : (d : Decoded) (f g : ℕ → List ℕ → Walk) (at : ℕ) (s : List ℕ)
-    → ((i : Instruction) (n : ℕ) → d ≡ Decoded.Found i n → f (at + n) (drop n s) ≡ g (at + n) (drop n s))
-    → stepBy d f at s ≡ stepBy d g at s
-step-same (Decoded.Found i n) f g at s h = ap (λ (w : Walk). stepped at (take n s) i w) (h i n refl)
-step-same (Decoded.Refused x) f g at s h = refl
-
-pub shorter : (b : ℕ) (s : List ℕ) (i : Instruction) (n k : ℕ) → decodeOf (b ∷ s) ≡ Decoded.Found i n → length s ≤ k
-    → length (drop n (b ∷ s)) ≤ k
-shorter b s i n k e h = let f = found-length (b ∷ s) i n e in rw length-drop (omega arith)
-
--- as many steps as there are bytes are enough
-enough : (j k at : ℕ) (s : List ℕ) → length s ≤ j → length s ≤ k → walkFrom j at s ≡ walkFrom k at s
-unfolding walkFrom
-enough zero zero at s h g = refl
-enough zero (suc k) at [] h g = refl
-enough zero (suc k) at (b ∷ s) h g = absurd (not-suc-le-zero h)
-enough (suc j) zero at [] h g = refl
-enough (suc j) zero at (b ∷ s) h g = absurd (not-suc-le-zero g)
-enough (suc j) (suc k) at [] h g = refl
-enough (suc j) (suc k) at (b ∷ s) h g =
-    step-same (decodeOf (b ∷ s)) (walkFrom j) (walkFrom k) at (b ∷ s)
-    (λ i n e.
-    enough j k (at + n) (drop n (b ∷ s)) (shorter b s i n j e (omega arith)) (shorter b s i n k e (omega arith)))
-
--- as many steps as there are bytes
-walkAll : ℕ → List ℕ → Walk
-walkAll at s = walkFrom (length s) at s
-
-first : (at : ℕ) (s : List ℕ) → 0 < length s → walkAll at s ≡ stepBy (decodeOf s) walkAll at s
-unfolding walkFrom walkAll
-first at [] h = absurd (not-suc-le-zero h)
-first at (b ∷ s) h =
-    step-same (decodeOf (b ∷ s)) (walkFrom (length s)) walkAll at (b ∷ s)
-    (λ i n e.
-    enough (length s) (length (drop n (b ∷ s))) (at + n) (drop n (b ∷ s)) (shorter b s i n (length s) e (omega arith))
-    (omega arith))
-
--- ---- the text that is left from an address on
 
 walkAt : List ℕ → ℕ → Walk
 walkAt code at = cond (leb (length code) limit) (walkAll at (drop at code)) (refused at (refusal 1))
@@ -80,7 +27,7 @@ pub left : List ℕ → ℕ → List ℕ
 left code at = textOf (walkAt code at)
 
 pub left-all : (code : List ℕ) → left code 0 ≡ listingOf code
-unfolding left walkAt walkAll walkOf listingOf
+unfolding left walkAt walkOf listingOf
 left-all code = refl
 
 -- where an instruction is found, the code is short enough to be listed
@@ -107,11 +54,7 @@ walk-at code at h = one (leb (length code) limit)
         → cond t (walkAll at (drop at code)) (refused at (refusal 1))
         ≡ stepBy (cond t (decodeOf (drop at code)) (Decoded.Refused (refusal 1)))
         (λ a s. cond t (walkAll a (drop a code)) (refused a (refusal 1))) at (drop at code)
-    one true =
-        let p : 0 < length (drop at code) = rw length-drop (omega arith) in
-        first at (drop at code) p
-        ∙ step-same (decodeOf (drop at code)) walkAll (λ a s. walkAll a (drop a code)) at (drop at code)
-        (λ i n e. ap (walkAll (at + n)) (drop-drop n at code))
+    one true = step-at code at h
     one false = refl
 
 left-at : (code : List ℕ) (at : ℕ) (d : Decoded) → at < length code → standsAt code at ≡ d
@@ -155,7 +98,7 @@ unfolding textOf
 left-refused code at r d h e f = left-at code at (Decoded.Refused r) h (sym e ∙ f)
 
 pub left-end : (code : List ℕ) (at : ℕ) → length code ≤ at → at ≤ limit → left code at ≡ endLine at
-unfolding left walkAt walkAll walkFrom textOf
+unfolding left walkAt walkFrom textOf
 left-end code at h g =
     let l : length code ≤ limit = omega arith in
     let t = le-leb (length code) limit l in

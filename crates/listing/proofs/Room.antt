@@ -15,13 +15,13 @@ use Rattle.isa.specs.Refusal.{refusal}
 use Rattle.isa.specs.declared.answer.Refusal.{Refusal}
 use Rattle.isa.specs.declared.instruction.Instruction.{Instruction}
 use Rattle.walk.specs.Walk.{Walk, refused, stepped, walkFrom, walkOf, limit}
+use Rattle.walk.proofs.Steps.{step-all}
 use Rattle.lines.specs.Line.{lineOf, tailAt, endLine, refusedLine}
 use Rattle.listing.specs.Listing.{textOf, listingOf, listedOf, listingLeft}
 use Rattle.listing.specs.declared.Listed.{Listed}
 use Rattle.lines.proofs.Lengths.{length-line}
 use Rattle.isa.proofs.Placed.{place-below}
 use Rattle.lines.proofs.Headings.{size-right, size-small}
-use Rattle.listing.proofs.Left.{step-all}
 
 -- an instruction of n bytes, at least four, takes at most 7 * n
 room-step : (at n : ℕ) (s : List ℕ) (i : Instruction) (w : Walk) → 4 ≤ n → n ≤ length s
