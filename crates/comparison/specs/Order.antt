@@ -4,7 +4,7 @@
 use Prim.Native.Nat.{ℕ}
 use Prim.Native.String.{String}
 use mathlib.Core.Bool.{Bool, true, false, cond}
-use mathlib.Core.List.{List, [], _∷_, map}
+use mathlib.Core.List.{List, [], _∷_, _++_, map}
 use lib.Dec.{eqb}
 use lib.Text.{eqt}
 use Rattle.bits.specs.Lists.{eqList}
@@ -59,8 +59,20 @@ other names = entry (Field.Other (lowest names)) (λ i n. fieldsOf names i)
 
 -- ---- the list
 
+-- the other fields, joined ones as one, by their lowest bit: of get_sr; of iadd and imadd; of bfi, bfeil, extr, shlhi and shrhi; of bitop;
+-- of the jumps; of the mask instructions
+unfoldable pub others : List (List String)
+others =
+    ("SRx" ∷ "SR" ∷ [])
+    ∷ ("S" ∷ []) ∷ ("As" ∷ []) ∷ ("N" ∷ []) ∷ ("Bs" ∷ []) ∷ ("s2" ∷ "s1" ∷ []) ∷ ("Cs" ∷ [])
+    ∷ ("m3" ∷ "m2" ∷ "m1" ∷ [])
+    ∷ ("tt0" ∷ []) ∷ ("tt1" ∷ []) ∷ ("tt2" ∷ []) ∷ ("tt3" ∷ [])
+    ∷ ("off" ∷ [])
+    ∷ ("ccn" ∷ []) ∷ ("n" ∷ []) ∷ ("cc" ∷ [])
+    ∷ []
+
 unfoldable pub order : List Entry
-unfolding rows
+unfolding rows others
 order =
     entry Field.Instruction (λ i n. placeOf i ∷ [])
     -- L of the movs says the length
@@ -70,15 +82,8 @@ order =
     ∷ entry Field.SourceB (λ i n. named (partsOf i .b))
     ∷ entry Field.SourceC (λ i n. named (partsOf i .c))
     ∷ entry Field.Immediate (λ i n. fieldsOf ("imm16" ∷ "imm32" ∷ []) i)
-    -- other fields, joined ones as one, by their lowest bit: of get_sr; of iadd and imadd; of bfi, bfeil, extr, shlhi and shrhi; of
-    -- bitop; of the jumps; of the mask instructions
-    ∷ other ("SRx" ∷ "SR" ∷ [])
-    ∷ other ("S" ∷ []) ∷ other ("As" ∷ []) ∷ other ("N" ∷ []) ∷ other ("Bs" ∷ []) ∷ other ("s2" ∷ "s1" ∷ []) ∷ other ("Cs" ∷ [])
-    ∷ other ("m3" ∷ "m2" ∷ "m1" ∷ [])
-    ∷ other ("tt0" ∷ []) ∷ other ("tt1" ∷ []) ∷ other ("tt2" ∷ []) ∷ other ("tt3" ∷ [])
-    ∷ other ("off" ∷ [])
-    ∷ other ("ccn" ∷ []) ∷ other ("n" ∷ []) ∷ other ("cc" ∷ [])
-    ∷ entry Field.Hint (λ i n. partsOf i .d .hint ∷ partsOf i .a .hint ∷ partsOf i .b .hint ∷ partsOf i .c .hint ∷ [])
+    ∷ map other others
+    ++ entry Field.Hint (λ i n. partsOf i .d .hint ∷ partsOf i .a .hint ∷ partsOf i .b .hint ∷ partsOf i .c .hint ∷ [])
     -- any other bit
     ∷ entry Field.Bit (λ i n. keptOf i ∷ [])
     ∷ []

@@ -18,7 +18,7 @@ use Rattle.isa.specs.declared.parts.Parts.{Parts}
 use Rattle.isa.specs.declared.instruction.Instruction.{Instruction}
 use Rattle.isa.proofs.Placed.{kind-within}
 use Rattle.encoding.specs.Write.{fieldsFor}
-use Rattle.comparison.specs.Order.{Entry, order, agrees, firstOf, differenceOf, fieldsOf, named}
+use Rattle.comparison.specs.Order.{Entry, others, order, agrees, firstOf, differenceOf, fieldsOf, named}
 use Rattle.comparison.specs.declared.Field.{Field}
 use Rattle.comparison.specs.declared.Difference.{Difference}
 use Rattle.difference.specs.First.{fromNumber, orIn, sameOperand, numberFor, byForm, byOperands, byNumber}
@@ -186,10 +186,10 @@ by-sixes = joined sixes (λ x y e. let h : x / 64 ≡ y / 64 = ap (nth 0) e in l
 by-ones : (x y : ℕ) → eqList (ones x) (ones y) ≡ eqb x y
 by-ones = joined ones (λ x y e. let h : x / 2 ≡ y / 2 = ap (nth 0) e in let l : x % 2 ≡ y % 2 = ap (nth 1) e in omega arith)
 
-deeper : (x : ℕ) → x / 16 ≡ x / 4 / 4
+pub deeper : (x : ℕ) → x / 16 ≡ x / 4 / 4
 deeper x = omega arith
 
-quarters : (x y : ℕ) → x / 4 ≡ y / 4 → x % 4 ≡ y % 4 → x ≡ y
+pub quarters : (x y : ℕ) → x / 4 ≡ y / 4 → x % 4 ≡ y % 4 → x ≡ y
 quarters x y h l = omega arith
 
 by-twos : (x y : ℕ) → eqList (twos x) (twos y) ≡ eqb x y
@@ -313,7 +313,7 @@ by-code p n q m = refl
 
 by-list : (i : Instruction) (n : ℕ) (j : Instruction) (m : ℕ)
     → map (testOf i n j m) order ≡ listTests (fieldsOf names i) (partsOf i) n (fieldsOf names j) (partsOf j) m
-unfolding rows order testOf toNumber listTests
+unfolding rows others order testOf toNumber listTests
 by-list i n j m = refl
 
 -- kinds count from 1

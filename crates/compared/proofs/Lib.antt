@@ -1,0 +1,4 @@
+pub mod Complete
+pub mod First
+pub mod Together
+pub mod Means

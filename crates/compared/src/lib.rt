@@ -1,0 +1,1 @@
+// Theorems of the comparison of two kernels; proofs/ has them. No code.
