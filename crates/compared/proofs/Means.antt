@@ -3,7 +3,7 @@
 use mathlib.Core.Path.{_≡_, refl, sym, ap, ap₂, _∙_}
 use mathlib.Core.Bool.{Bool, true, false, cond}
 use mathlib.Core.List.{List, [], _∷_}
-use mathlib.Core.Logic.{_↔_}
+use mathlib.Core.Logic.{_↔_, _⊎_, inl, inr}
 use mathlib.Core.Option.{Option, none, some}
 use Prim.Native.Nat.{ℕ, _≤_, _<_}
 use native.Mathlib.Omega.{arith}
@@ -55,7 +55,7 @@ walk-from : (a b : List ℕ) (to : ℕ) → Together a b to → refusalOf (rest 
 walk-from a b to (start _ e) = rw e
 walk-from a b to (on _ at i n t f g e) = rw e (sym (ap refusalOf (rest-finds a at i n f)) ∙ walk-from a b at t)
 
-walk-whole : (a : List ℕ) → length a ≤ limit → walkOf a ≡ rest a 0
+pub walk-whole : (a : List ℕ) → length a ≤ limit → walkOf a ≡ rest a 0
 unfolding walkOf
 walk-whole a h = rw (le-leb (length a) limit h)
 
@@ -125,3 +125,66 @@ self-same a w = let h = not-long a w in let o = outcome a a h h in o .answer ∙
 pub same-exactly : (a b : List ℕ) → Bytes a → Bytes b → (compareOf a b ≡ Comparison.Same) ↔ (Ends a × Ends b × (a ≡ b))
 same-exactly a b ha hb =
     (same-then a b ha hb, (λ h. ap (λ (x : List ℕ). compareOf a x) (sym (h .2)) ∙ self-same a (h .0)))
+
+-- ---- a field, an end, a refusal
+
+-- at the address both kernels have an instruction, of the same bytes before it, and this is the first field in which they differ
+pub record DiffersAt (a b : List ℕ) (at : ℕ) (f : Field) : Type 0 where
+  pub before : take at a ≡ take at b
+  pub i : Instruction
+  pub n : ℕ
+  pub first : Finds a at i n
+  pub j : Instruction
+  pub m : ℕ
+  pub second : Finds b at j m
+  pub field : FirstIn order i n j m f
+
+-- one kernel ends at the address, and in the other an instruction stands there
+pub record EndedAt (shorter longer : List ℕ) (at : ℕ) : Type 0 where
+  pub before : take at shorter ≡ take at longer
+  pub end : at ≡ length shorter
+  pub j : Instruction
+  pub m : ℕ
+  pub goes-on : Finds longer at j m
+
+-- the refusal of a kernel at an address that both reach
+pub record RefusedAt (code other : List ℕ) (at : ℕ) (r : Refusal) : Type 0 where
+  pub before : take at code ≡ take at other
+  pub refuses : Refuses code at r
+
+-- what is said of the answer
+abbrev pub Means : List ℕ → List ℕ → Comparison → Type 0
+Means a b Comparison.Same = Ends a × Ends b × (a ≡ b)
+Means a b (Comparison.Differs at f) = DiffersAt a b at f
+Means a b (Comparison.Ended at Kernel.First) = EndedAt a b at
+Means a b (Comparison.Ended at Kernel.Second) = EndedAt b a at
+Means a b (Comparison.Refused at r Kernel.First) = ((limit < length a) × (at ≡ 0) × (r ≡ refusal 1)) ⊎ RefusedAt a b at r
+Means a b (Comparison.Refused at r Kernel.Second) =
+    ((length a ≤ limit) × (limit < length b) × (at ≡ 0) × (r ≡ refusal 1)) ⊎ (RefusedAt b a at r × ((q : Refusal) → Refuses a at q → ⊥))
+
+-- Every answer means what is said of it.
+pub means : (a b : List ℕ) → Bytes a → Bytes b → Means a b (compareOf a b)
+means a b ha hb = go (sizes a b)
+  where
+    at : length a ≤ limit → length b ≤ limit → (to : ℕ) → Together a b to → (x : Stop a b to) → Means a b (answerAt a b to x)
+    at la lb to t (first-refused r f) = inr (record { before = same-before a b ha hb to t; refuses = f })
+    at la lb to t (second-refused r k g) = inr (record { before = sym (same-before a b ha hb to t); refuses = g }, k)
+    at la lb to t (both-ended x y) = same-ends a b ha hb la lb to t x y
+    at la lb to t (first-ended j m x y) = record { before = same-before a b ha hb to t; end = x; j = j; m = m; goes-on = y }
+    at la lb to t (second-ended i n x y) = record { before = sym (same-before a b ha hb to t); end = y; j = i; m = n; goes-on = x }
+    at la lb to t (differ i n j m f x y d) =
+        record {
+          before = same-before a b ha hb to t;
+          i = i;
+          n = n;
+          first = x;
+          j = j;
+          m = m;
+          second = y;
+          field = named-first i n j m f d;
+        }
+
+    go : Sizes a b → Means a b (compareOf a b)
+    go (first-long h e) = rw e (inl (h, refl, refl))
+    go (second-long h g e) = rw e (inl (h, g, refl, refl))
+    go (both-fit la lb o) = rw (o .answer) (at la lb (o .to) (o .together) (o .stop))

@@ -39,7 +39,7 @@ pub data Stands (code : List ℕ) (at : ℕ) : Type 0 where
   finds : (i : Instruction) (n : ℕ) → Finds code at i n → Stands code at
   refuses : (r : Refusal) → Refuses code at r → Stands code at
 
-stands : (code : List ℕ) (at : ℕ) → at ≤ length code → Stands code at
+pub stands : (code : List ℕ) (at : ℕ) → at ≤ length code → Stands code at
 stands code at h = go (ltb at (length code)) refl (decodeOf (drop at code)) refl
   where
     go : (t : Bool) → ltb at (length code) ≡ t → (d : Decoded) → decodeOf (drop at code) ≡ d → Stands code at
@@ -191,16 +191,15 @@ pub record Outcome (a b : List ℕ) : Type 0 where
   pub stop : Stop a b to
   pub answer : compareOf a b ≡ answerAt a b to stop
 
-pub outcome : (a b : List ℕ) → length a ≤ limit → length b ≤ limit → Outcome a b
+-- the answer, wherever two kernels go together and stop
+pub answer-of : (a b : List ℕ) → length a ≤ limit → length b ≤ limit → (to : ℕ) → Together a b to → (s : Stop a b to)
+    → compareOf a b ≡ answerAt a b to s
 unfolding compareOf walkOf
+answer-of a b h g to t s =
+    rw (le-leb (length a) limit h, le-leb (length b) limit g)
+    (sym (follows a b to t) ∙ answer-at a b to (within a b to t .0) s)
+
+pub outcome : (a b : List ℕ) → length a ≤ limit → length b ≤ limit → Outcome a b
 outcome a b h g =
     let r = reaches (length a) a b 0 (start 0 refl) (omega arith) in
-    let w = within a b (r .0) (r .1) in
-    record {
-      to = r .0;
-      together = r .1;
-      stop = r .2;
-      answer =
-          rw (le-leb (length a) limit h, le-leb (length b) limit g)
-          (sym (follows a b (r .0) (r .1)) ∙ answer-at a b (r .0) (w .0) (r .2));
-    }
+    record { to = r .0; together = r .1; stop = r .2; answer = answer-of a b h g (r .0) (r .1) (r .2) }
