@@ -4,3 +4,4 @@ pub mod Together
 pub mod Means
 pub mod Exchange
 pub mod Listed
+pub mod Lines

@@ -5,9 +5,8 @@ use mathlib.Core.List.{List, [], _∷_, _++_, append-assoc}
 use mathlib.Core.Option.{some}
 use Prim.Native.Nat.{ℕ, suc, _-_, _/_, _%_, _<_}
 use native.Mathlib.Omega.{arith}
-use lib.Dec.{ltb, eqb}
+use lib.Dec.{eqb}
 use lib.ListN.{getD, drop}
-use borrow.Author.Tests.{ltb-true}
 use Rattle.bits.proofs.Laws.{Bytes}
 use Rattle.isa.specs.Rows.{rows}
 use Rattle.isa.specs.Refusal.{numberOf, refusal}
@@ -19,33 +18,9 @@ use Rattle.lines.specs.Line.{tailAt, lineAt, endLine, refusedLine}
 use Rattle.hex.specs.Hex.{digit, hexBytes}
 use Rattle.listing.specs.Listing.{textOf}
 use Rattle.bits.proofs.Table.{agree}
+use Rattle.hex.proofs.Digits.{valueOf, value-digit, digit-above, digit-below, byte-same}
 use Rattle.isa.proofs.Placed.{place-below}
 use Rattle.isa.proofs.Numbers.{of-number, number-below}
-
--- ---- digits
-
-valueOf : ℕ → ℕ
-valueOf c = cond (ltb c 65) (c - 48) (c - 55)
-
-value-digit : (n : ℕ) → n < 16 → valueOf (digit n) ≡ n
-unfolding valueOf
-value-digit = agree 16 (λ n. valueOf (digit n)) (λ n. n) refl
-
-digit-same : (m n : ℕ) → m < 16 → n < 16 → digit m ≡ digit n → m ≡ n
-digit-same m n h g e = sym (value-digit m h) ∙ ap valueOf e ∙ value-digit n g
-
--- a digit is neither a space nor a lower-case letter
-digit-above : (n : ℕ) → n < 16 → 32 < digit n
-digit-above n h = ltb-true 32 (digit n) (agree 16 (λ k. ltb 32 (digit k)) (λ k. true) refl n h)
-
-digit-below : (n : ℕ) → n < 16 → digit n < 97
-digit-below n h = ltb-true (digit n) 97 (agree 16 (λ k. ltb (digit k) 97) (λ k. true) refl n h)
-
-byte-same : (a b : ℕ) → a < 256 → b < 256 → digit (a / 16) ≡ digit (b / 16) → digit (a % 16) ≡ digit (b % 16) → a ≡ b
-byte-same a b h g e f =
-    let p = digit-same (a / 16) (b / 16) (omega arith) (omega arith) e in
-    let q = digit-same (a % 16) (b % 16) (omega arith) (omega arith) f in
-    omega arith
 
 -- ---- a line
 
