@@ -1,10 +1,11 @@
-//! The bench examples of 01, run by the plain Rust program, and those of the byte form (`forms`). `rustc --test` builds them; each is a
-//! test.
+//! The bench examples of 01, run by the plain Rust program, those of the byte form (`forms`) and of comparisons
+//! (`comparisons`). `rustc --test` builds them; each is a test.
 
 #![cfg(test)]
 #![allow(dead_code)]
 
 mod assemble;
+mod comparisons;
 mod forms;
 mod plain;
 

@@ -1,5 +1,6 @@
 //! The calls of the C interface, on slices: the same numbers and the same bytes as its exported functions must give.
 
+use super::compare::compare as compared;
 use super::decode::decode as decoded;
 use super::encode::encode as encoded;
 use super::form::{Fields, FORM_BYTES};
@@ -67,6 +68,18 @@ pub fn run(call: Call) -> i32 {
     }
     call.answer[..ANSWER_BYTES].copy_from_slice(&answer_bytes(&answer));
     -(ending_numbers(answer.ending).1 as i32)
+}
+
+/// Compares two kernels: the length of the line, which stands at the start of `line`, or -1 where it has no room there.
+pub fn compare(first: &[u8], second: &[u8], line: &mut [u8]) -> i32 {
+    let text = compared(first, second).line();
+    match line.get_mut(..text.len()) {
+        None => -1,
+        Some(room) => {
+            room.copy_from_slice(text.as_bytes());
+            text.len() as i32
+        }
+    }
 }
 
 pub fn words(bytes: &[u8]) -> Vec<u32> {

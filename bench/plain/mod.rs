@@ -1,13 +1,15 @@
-//! The plain Rust program: decoding, encoding and runs of G13 kernels as 01 defines them, written from 01 and document 002 and from
-//! nothing else of this repository. The proved program is timed against it and compared with it, and the outside vectors are run
-//! through it.
+//! The plain Rust program: decoding, encoding, runs and comparisons of G13 kernels as 01 and the change requests define them, written
+//! from these and document 002 and from nothing else of this repository. The proved program is timed against it and compared with it,
+//! and the outside vectors are run through it.
 //!
 //! `find` and `decode` read an instruction, `operand` says what its operands are. `form` has the byte form, `fields` makes it of a
 //! decoded instruction, `encode` makes an encoding of it. `lanes` reads and writes the 32 threads of an operand, `sums`, `bits` and
-//! `masks` have the arithmetic, `step` does one instruction and `run` a whole run. `calls` has the calls of the C interface.
+//! `masks` have the arithmetic, `step` does one instruction and `run` a whole run. `compare` compares two kernels. `calls` has the calls
+//! of the C interface.
 
 mod bits;
 pub mod calls;
+pub mod compare;
 pub mod decode;
 pub mod encode;
 mod fields;
