@@ -1,12 +1,19 @@
-//! Compares the exported functions of the proved program with the plain Rust program, on random and damaged instructions and on
-//! random runs: every answer, and every byte of every buffer. What is lent lies against pages that nobody may touch.
+//! Compares the exported functions of the proved program with the plain Rust program, on random and damaged instructions, on random
+//! runs and on pairs of kernels: every answer, and every byte of every buffer. What is lent lies against pages that nobody may touch.
 //!
 //! The arguments are a factor for the number of cases and a seed; with the same two the cases are the same. With `--named`
 //! before them each case is named before it is tried.
 
 mod arrange;
+#[path = "../comparison/beside.rs"]
+mod beside;
+mod calling;
+mod comparing;
 mod damage;
 mod decoding;
+#[path = "../comparison/diagrams.rs"]
+mod diagrams;
+mod differing;
 mod encoding;
 #[path = "../../bench/exported.rs"]
 #[allow(dead_code)]
@@ -15,6 +22,7 @@ mod guarded;
 mod instructions;
 mod kernels;
 mod nulls;
+mod pairs;
 #[path = "../../bench/plain/mod.rs"]
 #[allow(dead_code, unused_imports)]
 mod plain;
@@ -28,6 +36,9 @@ use report::Report;
 const DECODED: u64 = 204_800;
 const ENCODED: u64 = 307_200;
 const RUNS: u64 = 6_144;
+const COMPARED: u64 = 61_440;
+/// The encodings of each form in which every bit is turned round.
+const TURNED: u64 = 20;
 const SEED: u64 = 20_260;
 
 fn main() {
@@ -42,5 +53,6 @@ fn main() {
     decoding::compare(&mut report, seed, cases(DECODED));
     encoding::compare(&mut report, seed, cases(ENCODED));
     running::compare(&mut report, seed, cases(RUNS));
+    comparing::compare(&mut report, seed, cases(COMPARED), cases(TURNED));
     std::process::exit(if report.end() { 0 } else { 1 });
 }

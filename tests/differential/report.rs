@@ -45,6 +45,14 @@ impl Report {
         }
     }
 
+    /// Things that must each have happened at least once, in one line.
+    pub fn reached(&mut self, what: &str, times: &[(&str, u64)]) {
+        if self.differences < MOST_SHOWN {
+            let counts: Vec<String> = times.iter().map(|(name, times)| format!("{name} {}", grouped(*times))).collect();
+            self.line(times.iter().all(|(_, times)| *times > 0), what, &counts.join(", "));
+        }
+    }
+
     fn line(&mut self, good: bool, what: &str, count: &str) {
         println!("{} {what}: {count}", if good { "ok   " } else { "FAIL " });
         if good {
