@@ -12,10 +12,11 @@ const TOO_LONG: [usize; 6] = [8193, 8194, 8199, 16384, 65536, 65540];
 
 type Pair = [Vec<u8>; 2];
 type Instructions = Vec<Vec<u8>>;
+type Way = fn(&mut Random) -> Pair;
 
 /// How a pair is made. Which of the two comes first is tossed up afterwards.
 #[rustfmt::skip]
-pub const WAYS: [(&str, fn(&mut Random) -> Pair); 25] = [
+pub const WAYS: [(&str, Way); 25] = [
     ("random bytes", |random| [(); 2].map(|_| few_bytes(random))),
     ("two kernels of their own", |random| [(); 2].map(|_| kernel(random).concat())),
     ("equal kernels", |random| near(random, |_, _| {})),
@@ -25,7 +26,7 @@ pub const WAYS: [(&str, fn(&mut Random) -> Pair); 25] = [
     ("one to three bits turned round", |random| damaged(random, |random, code| flip(random, code))),
     ("one bit turned round", |random| damaged(random, |random, code| *one_of(random, code) ^= 1 << random.below(8))),
     ("one byte replaced", |random| damaged(random, |random, code| *one_of(random, code) = random.number() as u8)),
-    ("several bytes replaced", |random| damaged(random, several)),
+    ("several bytes replaced", |random| damaged(random, |random, code| several(random, code))),
     ("cut at any byte", |random| damaged(random, |random, code| code.truncate(random.below(code.len())))),
     ("lengthened by bytes", |random| damaged(random, |random, code| code.extend(few_bytes(random)))),
     ("cut after an instruction", |random| near(random, |random, kernel| kernel.truncate(random.below(kernel.len())))),
@@ -146,7 +147,7 @@ fn few_bytes(random: &mut Random) -> Vec<u8> {
     random.bytes(length)
 }
 
-fn several(random: &mut Random, code: &mut Vec<u8>) {
+fn several(random: &mut Random, code: &mut [u8]) {
     for _ in 0..2 + random.below(4) {
         *one_of(random, code) = random.number() as u8;
     }
