@@ -3,6 +3,7 @@ ghost use mathlib.Core.Path.{_≡_};
 ghost use lib.ListN.{length, take};
 ghost use Rattle.io.specs.Counts.{Counts};
 ghost use Rattle.listing.specs.Listing.{listingOf};
+use libc::STDIN_FILENO;
 use libc::STDOUT_FILENO;
 use listing::Listed;
 
@@ -21,7 +22,7 @@ fn list_whole(code: &[u8], text: &mut [u8]) -> usize
 // With one byte more than the most that are listed, or after a read that failed, the listing is that of a kernel too long.
 fn main() {
     let mut code = [0u8; walk::LIMIT + 1];
-    let n = stdin::read_all(&mut code);
+    let n = input::read_all(STDIN_FILENO, &mut code);
     let mut text = io::large_buffer();
     let k = list_whole(&code[..n], &mut text);
     io::write_all(STDOUT_FILENO, &text[..k]);

@@ -6,6 +6,7 @@ ghost use lib.ListN.{length, take};
 ghost use Rattle.io.specs.Counts.{Counts};
 ghost use Rattle.listing.specs.Listing.{listingOf};
 ghost use Rattle.recode.specs.Recode.{recodedOf};
+use libc::STDIN_FILENO;
 use libc::STDOUT_FILENO;
 use listing::Listed;
 
@@ -26,7 +27,7 @@ fn list_again(code: &[u8], out: &mut [u8], text: &mut [u8]) -> usize
 // With one byte more than the most that are listed, or after a read that failed, the listing is that of a kernel too long.
 fn main() {
     let mut code = [0u8; walk::LIMIT + 1];
-    let n = stdin::read_all(&mut code);
+    let n = input::read_all(STDIN_FILENO, &mut code);
     let mut out = [0u8; walk::LIMIT + 1];
     let mut text = io::large_buffer();
     let k = list_again(&code[..n], &mut out, &mut text);
