@@ -1,2 +1,3 @@
 pub mod Going
 pub mod Calls
+pub mod Begin

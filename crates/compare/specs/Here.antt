@@ -8,7 +8,6 @@ use lib.ListN.{length, drop}
 use Rattle.isa.specs.Decode.{decodeOf}
 use Rattle.isa.specs.Parts.{partsOf}
 use Rattle.isa.specs.declared.answer.Decoded.{Decoded}
-use Rattle.isa.specs.declared.parts.Parts.{Parts}
 use Rattle.walk.specs.Walk.{walkFrom}
 use Rattle.comparison.specs.Compare.{between}
 use Rattle.comparison.specs.declared.Comparison.{Comparison}
@@ -19,8 +18,9 @@ use Rattle.turns.specs.declared.Standing.{Standing}
 use Rattle.turns.specs.declared.Turn.{Turn}
 use Rattle.compare.specs.declared.reader.Here.{Here}
 
+-- an instruction by its parts
 abbrev pub hereBy : Decoded → Here
-hereBy (Decoded.Found i n) = Here.Found i n
+hereBy (Decoded.Found i n) = Here.Found (partsOf i) n
 hereBy (Decoded.Refused r) = Here.Refused r
 
 abbrev pub hereAt : List ℕ → ℕ → Here
@@ -28,24 +28,20 @@ hereAt code address = cond (ltb address (length code)) (hereBy (decodeOf (drop a
 
 abbrev pub standingOf : Here → Standing
 standingOf Here.Ended = Standing.Ended
-standingOf (Here.Found i n) = Standing.Found
+standingOf (Here.Found p n) = Standing.Found
 standingOf (Here.Refused r) = Standing.Refused r
 
 -- the length of the instruction, or 0
 abbrev pub lengthOf : Here → ℕ
 lengthOf Here.Ended = 0
-lengthOf (Here.Found i n) = n
+lengthOf (Here.Found p n) = n
 lengthOf (Here.Refused r) = 0
-
--- two instructions are compared by their parts
-abbrev pub differenceFrom : Parts → ℕ → Here → Difference
-differenceFrom p n Here.Ended = Difference.None
-differenceFrom p n (Here.Found j m) = firstBy p n (partsOf j) m
-differenceFrom p n (Here.Refused r) = Difference.None
 
 abbrev pub differenceBy : Here → Here → Difference
 differenceBy Here.Ended second = Difference.None
-differenceBy (Here.Found i n) second = differenceFrom (partsOf i) n second
+differenceBy (Here.Found p n) Here.Ended = Difference.None
+differenceBy (Here.Found p n) (Here.Found q m) = firstBy p n q m
+differenceBy (Here.Found p n) (Here.Refused r) = Difference.None
 differenceBy (Here.Refused r) second = Difference.None
 
 abbrev pub turnOf : Here → Here → ℕ → Turn

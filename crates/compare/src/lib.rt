@@ -2,16 +2,14 @@
 // the walks go on or what the answer is. The two walks over readers are proved by hand.
 pub mod reader;
 ghost use mathlib.Core.Path.{_≡_};
+ghost use lib.ListN.{length};
 ghost use Rattle.comparison.specs.Compare.{compareOf};
-ghost use Rattle.compare.specs.Here.{hereAt, standingOf, lengthOf, differenceFrom, differenceBy, turnOf, walksOf};
+ghost use Rattle.comparison.specs.Line.{lineOf, writtenOf, lineLeft};
+ghost use Rattle.compare.specs.Here.{hereAt, standingOf, lengthOf, differenceBy, turnOf, walksOf};
 use comparison::Comparison;
 use comparison::Difference;
-use comparison::Kernel;
 use crate::reader::Here;
 use crate::reader::Reader;
-use isa::answer::Refusal;
-use isa::parts::Parts;
-use parts::parts_of;
 use turns::Standing;
 use turns::Turn;
 
@@ -36,23 +34,16 @@ fn length(here: Here) -> usize
     }
 }
 
-// Of an instruction, by its parts, and what stands in the second kernel
-fn difference_from(p: Parts, n: usize, second: Here) -> Difference
-    ensures { λ r. ⌜ r ≡ differenceFrom p n second ⌝ }
-{
-    match second {
-        Here::Found(j, m) => return difference::first(p, n, parts_of(j), m),
-        Here::Ended => return Difference::None,
-        Here::Refused(_) => return Difference::None,
-    }
-}
-
 // None where no two instructions stand
 fn difference_of(first: Here, second: Here) -> Difference
     ensures { λ r. ⌜ r ≡ differenceBy first second ⌝ }
 {
     match first {
-        Here::Found(i, n) => return difference_from(parts_of(i), n, second),
+        Here::Found(p, n) => match second {
+            Here::Found(q, m) => return difference::first(p, n, q, m),
+            Here::Ended => return Difference::None,
+            Here::Refused(_) => return Difference::None,
+        },
         Here::Ended => return Difference::None,
         Here::Refused(_) => return Difference::None,
     }
@@ -93,11 +84,19 @@ fn side_by_side<'a, 'b>(first: &'a [u8], second: &'b [u8]) -> Comparison
 pub fn compare(first: &[u8], second: &[u8]) -> Comparison
     ensures { λ r. ⌜ r ≡ compareOf (now (first .entry)) (now (second .entry)) ⌝ }
 {
-    if walk::LIMIT < first.len() {
-        return Comparison::Refused(0, Refusal::BadSize, Kernel::First);
+    let turn = turns::begin(first.len(), second.len());
+    if turns::goes_on(turn) {
+        side_by_side(first, second)
+    } else {
+        turns::answer_of(turn)
     }
-    if walk::LIMIT < second.len() {
-        return Comparison::Refused(0, Refusal::BadSize, Kernel::Second);
-    }
-    side_by_side(first, second)
+}
+
+// The line of the comparison, without a line feed, at the start of the text, and its length; where the text is too short for it, 0 and
+// nothing written.
+pub fn compare_line(first: &[u8], second: &[u8], text: &mut [u8]) -> usize
+    ensures { λ r. ⌜ (r ≡ writtenOf (lineOf (compareOf (now (first .entry)) (now (second .entry)))) (length (now (text .entry))))
+        × (now (text .exit) ≡ lineLeft (lineOf (compareOf (now (first .entry)) (now (second .entry)))) (now (text .entry))) ⌝ }
+{
+    compareline::write(compare(first, second), text)
 }

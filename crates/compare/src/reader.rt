@@ -4,17 +4,18 @@ ghost use Prim.Native.Nat.{_+_, _<_, _^_};
 ghost use Rattle.compare.specs.Here.{hereBy, hereAt};
 use isa::answer::Decoded;
 use isa::answer::Refusal;
-use isa::instruction::Instruction;
+use isa::parts::Parts;
+use parts::parts_of;
 
 pub struct Reader<'a> {
     pub code: &'a [u8],
     pub address: usize,
 }
 
-// What stands at the place of a reader: nothing more, an instruction with its length, or the refusal.
+// What stands at the place of a reader: nothing more, an instruction, by its parts, with its length, or the refusal.
 pub enum Here {
     Ended,
-    Found(Instruction, usize),
+    Found(Parts, usize),
     Refused(Refusal),
 }
 
@@ -22,7 +23,7 @@ fn here_by(decoded: Decoded) -> Here
     ensures { λ r. ⌜ r ≡ hereBy decoded ⌝ }
 {
     match decoded {
-        Decoded::Found(i, n) => return Here::Found(i, n),
+        Decoded::Found(i, n) => return Here::Found(parts_of(i), n),
         Decoded::Refused(r) => return Here::Refused(r),
     }
 }

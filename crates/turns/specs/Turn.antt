@@ -1,11 +1,21 @@
 -- What two places say, one of each kernel, at one address, in the shape of the code.
 use Prim.Native.Nat.{ℕ}
-use mathlib.Core.Bool.{Bool, true, false}
+use mathlib.Core.Bool.{Bool, true, false, cond}
+use lib.Dec.{leb}
+use Rattle.isa.specs.Refusal.{refusal}
+use Rattle.walk.specs.Walk.{limit}
 use Rattle.comparison.specs.declared.Difference.{Difference}
 use Rattle.comparison.specs.declared.Kernel.{Kernel}
 use Rattle.comparison.specs.declared.Comparison.{Comparison}
 use Rattle.turns.specs.declared.Standing.{Standing}
 use Rattle.turns.specs.declared.Turn.{Turn}
+
+-- kernels of these lengths
+abbrev pub beginning : ℕ → ℕ → Turn
+beginning first second =
+    cond (leb first limit)
+    (cond (leb second limit) (Turn.On 0) (Turn.Stop (Comparison.Refused 0 (refusal 1) Kernel.Second)))
+    (Turn.Stop (Comparison.Refused 0 (refusal 1) Kernel.First))
 
 abbrev pub agreed : Difference → ℕ → ℕ → Turn
 agreed Difference.None n at = Turn.On n

@@ -1,10 +1,11 @@
 // What two places say, one of each kernel, at one address: both walks go on, or the answer.
 ghost use mathlib.Core.Path.{_≡_};
-ghost use Rattle.turns.specs.Turn.{agreed, turnBetween, isOn, stepOf, answerOf};
+ghost use Rattle.turns.specs.Turn.{beginning, agreed, turnBetween, isOn, stepOf, answerOf};
 use comparison::Comparison;
 use comparison::Difference;
 use comparison::Kernel;
 use isa::answer::Refusal;
+use walk::LIMIT;
 
 // What stands at a place of a code: its end, an instruction, or a refusal.
 pub enum Standing {
@@ -17,6 +18,19 @@ pub enum Standing {
 pub enum Turn {
     On(usize),
     Stop(Comparison),
+}
+
+// Kernels of these lengths: one that is too long is refused before the walks, the first if both are.
+pub fn begin(first: usize, second: usize) -> Turn
+    ensures { λ r. ⌜ r ≡ beginning first second ⌝ }
+{
+    if LIMIT < first {
+        return Turn::Stop(Comparison::Refused(0, Refusal::BadSize, Kernel::First));
+    }
+    if LIMIT < second {
+        return Turn::Stop(Comparison::Refused(0, Refusal::BadSize, Kernel::Second));
+    }
+    Turn::On(0)
 }
 
 fn agreed(d: Difference, n: usize, address: usize) -> Turn
@@ -41,7 +55,7 @@ pub fn decide(one: Standing, two: Standing, d: Difference, n: usize, address: us
             Standing::Found => Turn::Stop(Comparison::Ended(address, Kernel::First)),
         },
         Standing::Found => match two {
-            Standing::Refused(r) => Turn::Stop(Comparison::Refused(address, r, Kernel::Second)),
+            Standing::Refused(q) => Turn::Stop(Comparison::Refused(address, q, Kernel::Second)),
             Standing::Ended => Turn::Stop(Comparison::Ended(address, Kernel::Second)),
             Standing::Found => agreed(d, n, address),
         },

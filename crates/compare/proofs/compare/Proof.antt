@@ -1,31 +1,26 @@
--- A code that is too long is refused, the first kernel's if both are; else both are walked.
-use native.Mathlib.Omega.{arith}
-use lib.ListN.{length}
-use borrow.Author.Tests.{le-leb, lt-leb}
-use Rattle.walk.specs.Walk.{walkOf, limit}
-use Rattle.comparison.specs.Compare.{compareOf}
+-- Kernels that are not too long are walked; else the answer is the refusal.
+use mathlib.Core.Path.{_∙_}
+use Rattle.compare.proofs.Begin.{goes-on, stops}
 use borrow.Author.Needs.{needs}
 use Rattle.compare.proofs.compare.Statement.{statement}
 use Rattle.compare.proofs.compare.Tie as tie
 
 returns : tie.Need-returns
-unfolding compareOf
 returns c =
-    let a = c .before .before .before .args in
-    rw (lt-leb (length (a .first .now)) limit (omega arith))
+    let g = c .before .before in
+    let a = g .before .before .before .before .args in
+    c .side-by-side .ensures
+    ∙ goes-on (a .first .now) (a .second .now) _ _ (g .before .begin .ensures) (g .goes-on .ensures) (c .before .if1 .taken)
 
 returns-2 : tie.Need-returns-2
-unfolding compareOf
 returns-2 c =
-    let a = c .before .before .before .before .args in
-    rw (le-leb (length (a .first .now)) limit (omega arith), lt-leb (length (a .second .now)) limit (omega arith))
-
-returns-3 : tie.Need-returns-3
-unfolding compareOf walkOf
-returns-3 c =
-    let a = c .before .before .before .before .before .args in
-    rw (le-leb (length (a .first .now)) limit (omega arith), le-leb (length (a .second .now)) limit (omega arith))
-    (c .side-by-side .ensures)
+    let g = c .before .before in
+    let a = g .before .before .before .before .args in
+    c .answer-of .ensures
+    ∙ stops (a .first .now) (a .second .now) _ _ (g .before .begin .ensures) (g .goes-on .ensures) (c .before .if1 .left)
 
 pub compare-spec : {M : Type 1} → statement M
-compare-spec = tie.close (tie.spec returns returns-2 (λ c κs. search needs) returns-3)
+compare-spec =
+    tie.close
+    (tie.spec
+    (λ c κs. search needs) (λ c κs. search needs) (λ c κs. search needs) (λ c κs. search needs) returns returns-2)
