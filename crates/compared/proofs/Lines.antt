@@ -2,11 +2,13 @@
 use mathlib.Core.Path.{_≡_, refl, sym, ap, ap₂, _∙_}
 use mathlib.Core.Bool.{Bool, true, false, cond}
 use mathlib.Core.List.{List, [], _∷_, _++_}
+use mathlib.Core.Logic.{_⊎_, inl, inr}
 use Prim.Native.Nat.{ℕ, _+_, _*_, _-_, _/_, _%_, _<_, _≤_}
 use native.Mathlib.Omega.{arith}
-use lib.Dec.{eqb, ltb}
-use lib.ListN.{length, getD, drop}
-use borrow.Author.Tests.{ltb-true, ltb-false, lt-ltb, le-ltb, ne-eqb}
+use lib.Dec.{eqb, leb, ltb}
+use lib.ListN.{length, getD, take, drop, length-append, length-drop}
+use lib.Seq.{take-append-seam}
+use borrow.Author.Tests.{ltb-false, lt-ltb, ne-eqb, le-leb, leb-true, leb-false}
 use Rattle.isa.specs.Text.{ascii}
 use Rattle.isa.specs.Refusal.{numberOf, refusal}
 use Rattle.isa.specs.declared.answer.Refusal.{Refusal}
@@ -14,7 +16,7 @@ use Rattle.isa.proofs.Numbers.{of-number, number-below}
 use Rattle.hex.specs.Hex.{digit, hexAddress}
 use Rattle.hex.proofs.Digits.{valueOf, value-digit, digit-below}
 use Rattle.comparison.specs.Compare.{compareOf}
-use Rattle.comparison.specs.Line.{decimal, wordOf, kernelNumber, endedWords, refusedWords, atAddress, lineOf, Short, Printable}
+use Rattle.comparison.specs.Line.{decimal, wordOf, kernelNumber, endedWords, refusedWords, atAddress, lineOf, writtenOf, lineLeft, Short, Printable}
 use Rattle.comparison.specs.declared.Field.{Field}
 use Rattle.comparison.specs.declared.Kernel.{Kernel}
 use Rattle.comparison.specs.declared.Comparison.{Comparison}
@@ -173,3 +175,31 @@ line-length Comparison.Same = omega arith
 line-length (Comparison.Differs at f) = omega (arith, short-word f)
 line-length (Comparison.Ended at k) = omega arith
 line-length (Comparison.Refused at r k) = omega arith
+
+-- ---- the call on a text
+
+-- a text of sixteen bytes or more has room: its first bytes are the line
+pub with-room : (c : Comparison) (old new : List ℕ) (n : ℕ) → 16 ≤ length old → n ≡ writtenOf (lineOf c) (length old)
+    → new ≡ lineLeft (lineOf c) old → (n ≤ 16) × (length new ≡ length old) × (take n new ≡ lineOf c)
+with-room c old new n h e f =
+    let line = lineOf c in
+    let l = line-length c in
+    let t = le-leb (length line) (length old) (omega arith) in
+    let m : n ≡ length line = rw t at e in
+    let g : new ≡ line ++ drop (length line) old = rw t at f in
+    let s = length-append line (drop (length line) old) in
+    let d = length-drop (length line) old in
+    (omega arith, omega (arith, ap length g), rw (m, g) (take-append-seam line (drop (length line) old)))
+
+-- no byte is written exactly where the text is too short for the line
+pub written : (c : Comparison) (room n : ℕ) → n ≡ writtenOf (lineOf c) room
+    → ((n ≡ 0) × (room < length (lineOf c))) ⊎ ((0 < n) × (n ≤ 16) × (n ≡ length (lineOf c)) × (length (lineOf c) ≤ room))
+written c room n e = go (leb (length (lineOf c)) room) refl
+  where
+    go : (s : Bool) → leb (length (lineOf c)) room ≡ s
+        → ((n ≡ 0) × (room < length (lineOf c))) ⊎ ((0 < n) × (n ≤ 16) × (n ≡ length (lineOf c)) × (length (lineOf c) ≤ room))
+    go true f =
+        let l = line-length c in
+        let m : n ≡ length (lineOf c) = rw f at e in
+        inr (omega arith, omega arith, m, leb-true (length (lineOf c)) room f)
+    go false f = inl (rw f at e, leb-false (length (lineOf c)) room f)
