@@ -4,7 +4,7 @@ pub mod reader;
 ghost use mathlib.Core.Path.{_≡_};
 ghost use lib.ListN.{length};
 ghost use Rattle.comparison.specs.Compare.{compareOf};
-ghost use Rattle.comparison.specs.Line.{lineOf, writtenOf, lineLeft};
+ghost use Rattle.comparison.specs.AnswerLine.{lineOf, writtenOf, lineLeft};
 ghost use Rattle.compare.specs.Here.{hereAt, standingOf, lengthOf, differenceBy, turnOf, walksOf};
 use comparison::Comparison;
 use comparison::Difference;

@@ -16,7 +16,7 @@ use Rattle.isa.proofs.Numbers.{of-number, number-below}
 use Rattle.hex.specs.Hex.{digit, hexAddress}
 use Rattle.hex.proofs.Digits.{valueOf, value-digit, digit-below}
 use Rattle.comparison.specs.Compare.{compareOf}
-use Rattle.comparison.specs.Line.{decimal, wordOf, kernelNumber, endedWords, refusedWords, atAddress, lineOf, writtenOf, lineLeft, Short, Printable}
+use Rattle.comparison.specs.AnswerLine.{decimal, wordOf, kernelNumber, endedWords, refusedWords, atAddress, lineOf, writtenOf, lineLeft, Short, Printable}
 use Rattle.comparison.specs.declared.Field.{Field}
 use Rattle.comparison.specs.declared.Kernel.{Kernel}
 use Rattle.comparison.specs.declared.Comparison.{Comparison}

@@ -15,7 +15,7 @@ use Rattle.isa.specs.declared.instruction.Instruction.{Instruction}
 use Rattle.walk.specs.Walk.{Walk, ended, refused, stepped, walkFrom, walkOf, limit}
 use Rattle.comparison.specs.Order.{Entry, others, order, firstOf, differenceOf, agrees}
 use Rattle.comparison.specs.Compare.{compareOf}
-use Rattle.comparison.specs.Line.{Short, Printable}
+use Rattle.comparison.specs.AnswerLine.{Short, Printable}
 use Rattle.comparison.specs.declared.Field.{Field}
 use Rattle.comparison.specs.declared.Difference.{Difference}
 use Rattle.comparison.specs.declared.Kernel.{Kernel}

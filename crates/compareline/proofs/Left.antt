@@ -8,7 +8,7 @@ use lib.Seq.{sets, take-length}
 use borrow.Author.Tests.{le-leb, lt-leb}
 use Rattle.isa.specs.Text.{ascii}
 use Rattle.hex.specs.Hex.{hexAddress}
-use Rattle.comparison.specs.Line.{atAddress, writtenOf, lineLeft}
+use Rattle.comparison.specs.AnswerLine.{atAddress, writtenOf, lineLeft}
 use Rattle.bits.proofs.Pieces.{after, put-first}
 
 -- too little room

@@ -5,7 +5,7 @@ ghost use mathlib.Core.List.{_++_};
 ghost use lib.ListN.{length, take};
 ghost use lib.Seq.{sets};
 ghost use Rattle.isa.specs.Text.{ascii};
-ghost use Rattle.comparison.specs.Line.{lineOf, atAddress, writtenOf, lineLeft, Printable};
+ghost use Rattle.comparison.specs.AnswerLine.{lineOf, atAddress, writtenOf, lineLeft, Printable};
 ghost use Rattle.compareline.specs.Words.{Sized};
 
 mod word;

@@ -2,7 +2,7 @@
 ghost use mathlib.Core.Path.{_≡_};
 ghost use Prim.Native.Nat.{_≤_, _<_};
 ghost use lib.ListN.{length, take};
-ghost use Rattle.comparison.specs.Line.{wordOf, kernelNumber, endedWords, refusedWords, Short};
+ghost use Rattle.comparison.specs.AnswerLine.{wordOf, kernelNumber, endedWords, refusedWords, Short};
 ghost use Rattle.comparison.specs.declared.Field.{Field};
 ghost use Rattle.hex.specs.Hex.{digit};
 ghost use Rattle.compareline.specs.Words.{Says};

@@ -5,7 +5,7 @@ ghost use lib.ListN.{length, take};
 ghost use Rattle.io.specs.Counts.{Counts};
 ghost use Rattle.isa.specs.Text.{ascii};
 ghost use Rattle.comparison.specs.Compare.{compareOf};
-ghost use Rattle.comparison.specs.Line.{lineOf};
+ghost use Rattle.comparison.specs.AnswerLine.{lineOf};
 use libc::STDOUT_FILENO;
 
 // The kernel in the file that argument i names. Where it can't be read, as many bytes as the buffer holds, which are too many.

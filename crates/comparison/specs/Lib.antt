@@ -1,3 +1,3 @@
 pub mod Order
 pub mod Compare
-pub mod Line
+pub mod AnswerLine

@@ -8,7 +8,7 @@ use lib.IntN.{ℤ, pos, negℤ}
 use lib.ListN.{length}
 use Rattle.isa.specs.Refusal.{numberOf, refusal}
 use Rattle.comparison.specs.Compare.{compareOf}
-use Rattle.comparison.specs.Line.{lineOf, lineLeft}
+use Rattle.comparison.specs.AnswerLine.{lineOf, lineLeft}
 
 -- the length of the line, or minus the number of refusal 1 where the buffer is too short for it
 abbrev pub returnedFor : List ℕ → ℕ → ℤ

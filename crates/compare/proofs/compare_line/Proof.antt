@@ -3,7 +3,7 @@ use mathlib.Core.Path.{_≡_, sym, ap, _∙_, subst}
 use Prim.Native.Nat.{ℕ}
 use mathlib.Core.List.{List}
 use lib.ListN.{length}
-use Rattle.comparison.specs.Line.{lineOf, writtenOf, lineLeft, Printable}
+use Rattle.comparison.specs.AnswerLine.{lineOf, writtenOf, lineLeft, Printable}
 use Rattle.comparison.specs.declared.Comparison.{Comparison}
 use Rattle.compared.proofs.Listed.{printable}
 use borrow.Author.Needs.{needs}

@@ -4,7 +4,7 @@ use Prim.Native.Nat.{_+_}
 use native.Mathlib.Omega.{arith}
 use lib.ListN.{take}
 use lib.Seq.{length-take-le}
-use Rattle.comparison.specs.Line.{atAddress}
+use Rattle.comparison.specs.AnswerLine.{atAddress}
 use Rattle.compareline.proofs.Left.{no-room, room, length-at, put-both}
 use borrow.Author.Needs.{needs}
 use Rattle.compareline.proofs.write_at.Statement.{statement}

@@ -6,7 +6,7 @@ use native.Mathlib.Omega.{arith}
 use lib.ListN.{length, take, drop, set, length-append, length-set}
 use lib.Seq.{sets-eq, take-at, length-take-le}
 use Rattle.comparison.specs.Compare.{compareOf}
-use Rattle.comparison.specs.Line.{lineOf}
+use Rattle.comparison.specs.AnswerLine.{lineOf}
 use Rattle.compared.proofs.Lines.{with-room}
 use borrow.Author.Needs.{needs}
 use Rattle.comparer.proofs.compare_whole.Statement.{statement}

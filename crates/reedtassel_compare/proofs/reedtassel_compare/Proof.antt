@@ -9,7 +9,7 @@ use mir.Syntax.{w32}
 use mir.Facts.{toZ-pos}
 use borrow.Author.Tests.{le-leb, lt-leb}
 use Rattle.comparison.specs.Compare.{compareOf}
-use Rattle.comparison.specs.Line.{lineOf, writtenOf}
+use Rattle.comparison.specs.AnswerLine.{lineOf, writtenOf}
 use Rattle.comparison.specs.declared.Comparison.{Comparison}
 use Rattle.compared.proofs.Lines.{written}
 use Rattle.reedtassel_compare.specs.Compare.{returnedFor}
