@@ -1,4 +1,4 @@
-# From the tables of the documents, the lines of C that hold include/reedtassel.h to them: a line that is wrong does not compile.
+# From the tables of the documents, the lines of C that hold the headers in include/ to them: a line that is wrong does not compile.
 #
 # - A table with the columns offset, bytes and name is the layout of the struct that was named last above it.
 # - A row that has a name `REEDTASSEL_..` in a cell has its number in another, the first that is a number.
@@ -14,7 +14,7 @@ function close_layout() {
     layout = ""
 }
 
-BEGIN { FS = "|"; print "#include \"reedtassel.h\"" }
+BEGIN { FS = "|"; print "#include \"reedtassel.h\"\n#include \"reedtassel_compare.h\"" }
 
 match($0, /struct reedtassel_[a-z]+/) { named = substr($0, RSTART + 7, RLENGTH - 7) }
 
