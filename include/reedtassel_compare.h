@@ -17,6 +17,9 @@ extern "C" {
 /* Bytes that hold every line. */
 #define REEDTASSEL_COMPARE_LINE_MOST 16
 
+/* Bytes of a kernel; a longer one is refused with 1. */
+#define REEDTASSEL_COMPARE_CODE_MOST 8192
+
 /*
  * Compares two kernels, up to the first difference, end or refusal, and writes a line that says what was found:
  * `same`; or the address in four upper-case hexadecimal digits, a space, and one of

@@ -13,7 +13,7 @@
 #include "reedtassel_compare.h"
 
 /* One byte more than a kernel may have, by which one that is too long is seen. */
-enum { READ_MOST = 8192 + 1 };
+enum { READ_MOST = REEDTASSEL_COMPARE_CODE_MOST + 1 };
 
 enum { SAME = 0, DIFFERENT = 1, FAILED = 2 };
 

@@ -16,14 +16,14 @@ use Rattle.turns.specs.declared.Turn.{Turn}
 use Rattle.compare.specs.Here.{walksOf}
 
 module _ (a b : List ℕ) where
-  -- by which of the two is too long
-  pub record Began (s t : Bool) : Type 0 where
+  -- how it begins, and what follows
+  pub record Began : Type 0 where
     pub turn : Turn
     pub begins : beginning (length a) (length b) ≡ turn
     pub walked : isOn turn ≡ true → compareOf a b ≡ walksOf a b
     pub refused : isOn turn ≡ false → compareOf a b ≡ answerOf turn
 
-  began : (s t : Bool) → leb (length a) limit ≡ s → leb (length b) limit ≡ t → Began s t
+  began : (s t : Bool) → leb (length a) limit ≡ s → leb (length b) limit ≡ t → Began
   unfolding compareOf walkOf
   began true true e f =
       record {
@@ -47,7 +47,7 @@ module _ (a b : List ℕ) where
         refused = λ h. rw e;
       }
 
-  abbrev all : Began (leb (length a) limit) (leb (length b) limit)
+  abbrev all : Began
   all = began (leb (length a) limit) (leb (length b) limit) refl refl
 
   module _ (turn : Turn) (on : Bool) (e : turn ≡ beginning (length a) (length b)) (f : on ≡ isOn turn) where

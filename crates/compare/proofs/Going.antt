@@ -10,17 +10,17 @@ use mathlib.Core.List.{List}
 use Prim.Native.Nat.{ℕ, _+_, _≤_, _<_}
 use native.Mathlib.Omega.{arith}
 use lib.Dec.{T, ltb, ltb→lt, nltb→le}
-use lib.ListN.{length, take, drop, length-take, length-drop, drop-of-length-le}
-use Rattle.isa.proofs.Found.{found-length}
+use lib.ListN.{length, take, drop, drop-of-length-le}
 use Rattle.isa.specs.Decode.{decodeOf}
 use Rattle.isa.specs.Parts.{partsOf}
 use Rattle.isa.specs.declared.answer.Decoded.{Decoded}
 use Rattle.isa.specs.declared.instruction.Instruction.{Instruction}
 use Rattle.walk.specs.Walk.{Walk, ended, walkFrom}
-use Rattle.walk.proofs.Steps.{stepBy, walkAll, step-at}
+use Rattle.walk.proofs.Steps.{stepBy, step-at}
 use Rattle.comparison.specs.Compare.{orElse, between}
 use Rattle.comparison.specs.declared.Difference.{Difference}
 use Rattle.comparison.specs.declared.Comparison.{Comparison}
+use Rattle.compared.proofs.Together.{rest, lies}
 use Rattle.difference.specs.First.{firstBy}
 use Rattle.difference.proofs.Law.{difference-by-parts, agreed-lengths}
 use Rattle.turns.specs.Turn.{agreed, isOn, stepOf, answerOf}
@@ -29,10 +29,6 @@ use Rattle.compare.specs.Here.{hereBy, hereAt, turnOf, walksOf}
 use Rattle.compare.specs.declared.reader.Here.{Here}
 
 -- ---- one code
-
--- the walk from an address on
-abbrev rest : List ℕ → ℕ → Walk
-rest xs i = walkAll i (drop i xs)
 
 -- the same and what stands there, by whether the address lies in the code, and what is decoded then
 abbrev walkBy : List ℕ → ℕ → Bool → Decoded → Walk
@@ -70,10 +66,8 @@ fits xs i h = go (decodedAt xs i) refl
   where
     go : (d : Decoded) → decodedAt xs i ≡ d → IfFound xs i d
     go (Decoded.Found k n) e =
-        let f = found-length (drop i xs) k n e in
-        let d = length-drop i xs in
-        let l = ltb→lt i (length xs) h in
-        record { some = omega arith; inside = omega arith; long = rw length-take (omega arith) }
+        let l = lies xs i k n (ltb→lt i (length xs) h, e) in
+        record { some = omega arith; inside = l .1; long = l .2 }
     go (Decoded.Refused r) e = tt
 
 -- ---- a turn of two

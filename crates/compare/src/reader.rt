@@ -12,7 +12,8 @@ pub struct Reader<'a> {
     pub address: usize,
 }
 
-// What stands at the place of a reader: nothing more, an instruction, by its parts, with its length, or the refusal.
+// What stands at the place of a reader: nothing more, at the end of the code or past it; an instruction, by its parts, with its length; or the
+// refusal.
 pub enum Here {
     Ended,
     Found(Parts, usize),

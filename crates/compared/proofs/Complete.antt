@@ -5,18 +5,15 @@ use mathlib.Core.List.{List, [], _∷_}
 use Prim.Native.Nat.{ℕ, _+_, _-_, _/_, _%_, _<_}
 use native.Mathlib.Omega.{arith}
 use lib.ListN.{getD}
-use Rattle.bits.specs.Lists.{eqList}
 use Rattle.bits.proofs.Lists.{eqList-is, eqList-self}
 use Rattle.isa.specs.Rows.{rows}
-use Rattle.isa.specs.Parts.{slot, numbersOf, partsOf, slotNumbers}
-use Rattle.isa.specs.declared.parts.Slot.{Slot}
-use Rattle.isa.specs.declared.parts.Parts.{Parts}
+use Rattle.isa.specs.Parts.{numbersOf, partsOf}
 use Rattle.isa.specs.declared.instruction.Instruction.{Instruction}
 use Rattle.isa.proofs.Placed.{kind-within}
 use Rattle.parts.proofs.Back.{back, parts-back, numbers-back}
 use Rattle.comparison.specs.Order.{Entry, others, order, agrees, firstOf, differenceOf, fieldsOf}
 use Rattle.comparison.specs.declared.Difference.{Difference}
-use Rattle.difference.proofs.Law.{names, numberIn, told, in-parts, quarters, deeper}
+use Rattle.difference.proofs.Law.{names, kindNumber, told, in-parts, quarters, deeper}
 
 -- two instructions, of n and of m bytes, agree in every entry of a list
 abbrev pub Agree : List Entry → Instruction → ℕ → Instruction → ℕ → Type 0
@@ -34,7 +31,7 @@ none-agree (e ∷ es) i n j m h = go (agrees e i n j m) refl h (λ f. none-agree
 
 -- the number of mov16, mov32, get_sr and the jumps; the others have none
 number-of : (i : Instruction) → let p = partsOf i in
-    p .immediate ≡ numberIn 1 1 p + numberIn 2 2 p + numberIn 3 3 p + numberIn 17 18 p
+    p .immediate ≡ kindNumber 1 1 p + kindNumber 2 2 p + kindNumber 3 3 p + kindNumber 17 18 p
 unfolding partsOf
 number-of (Instruction.Mov16 d imm l kept) = omega arith
 number-of (Instruction.Mov32 d imm l kept) = omega arith
@@ -69,8 +66,8 @@ infixr 30 _&_
 _&_ : {x y : ℕ} {xs ys : List ℕ} → x ≡ y → xs ≡ ys → x ∷ xs ≡ y ∷ ys
 _&_ e f = ap₂ (λ (x : ℕ) (xs : List ℕ). x ∷ xs) e f
 
-sixes-back : (x y : ℕ) → x / 64 ≡ y / 64 → x % 64 ≡ y % 64 → x ≡ y
-sixes-back x y h l = omega arith
+srFields-back : (x y : ℕ) → x / 64 ≡ y / 64 → x % 64 ≡ y % 64 → x ≡ y
+srFields-back x y h l = omega arith
 
 halves-back : (x y : ℕ) → x / 2 ≡ y / 2 → x % 2 ≡ y % 2 → x ≡ y
 halves-back x y h l = omega arith
@@ -129,10 +126,10 @@ numbers-same i n j m a₁ =
     let q = partsOf j in
     let told-same : told p ≡ told q = sym (in-parts i) ∙ fields-same i n j m a₁ ∙ in-parts j in
     let f : (k : ℕ) → nth k (told p) ≡ nth k (told q) = λ k. ap (nth k) told-same in
-    let sr : numberIn 3 3 p ≡ numberIn 3 3 q = sixes-back _ _ (f 3) (f 4) in
-    let one : numberIn 1 1 p ≡ numberIn 1 1 q = f 1 in
-    let two : numberIn 2 2 p ≡ numberIn 2 2 q = f 2 in
-    let off : numberIn 17 18 p ≡ numberIn 17 18 q = f 19 in
+    let sr : kindNumber 3 3 p ≡ kindNumber 3 3 q = srFields-back _ _ (f 3) (f 4) in
+    let one : kindNumber 1 1 p ≡ kindNumber 1 1 q = f 1 in
+    let two : kindNumber 2 2 p ≡ kindNumber 2 2 q = f 2 in
+    let off : kindNumber 17 18 p ≡ kindNumber 17 18 q = f 19 in
     let number : p .immediate ≡ q .immediate = omega (arith, number-of i, number-of j) in
     let a₂ = a₁ .1 in
     let a₃ = a₂ .1 in

@@ -11,7 +11,6 @@ use lib.Seq.{take-append-seam}
 use borrow.Author.Tests.{ltb-false, lt-ltb, ne-eqb, le-leb, leb-true, leb-false}
 use Rattle.isa.specs.Text.{ascii}
 use Rattle.isa.specs.Refusal.{numberOf, refusal}
-use Rattle.isa.specs.declared.answer.Refusal.{Refusal}
 use Rattle.isa.proofs.Numbers.{of-number, number-below}
 use Rattle.hex.specs.Hex.{digit, hexAddress}
 use Rattle.hex.proofs.Digits.{valueOf, value-digit, digit-below}
@@ -91,21 +90,18 @@ kernel-back Kernel.Second = refl
 
 -- ---- lines
 
--- by the first letter, s for the same; else by the letter after the address, e, r, or that of a field's word
-abbrev lineBack : List ℕ → Comparison
-lineBack l =
-    cond (eqb (nth 0 l) 115) Comparison.Same
-    (cond (eqb (nth 5 l) 101) (Comparison.Ended (addressBack l) (kernelBack (nth 11 l)))
-    (cond (eqb (nth 5 l) 114) (Comparison.Refused (addressBack l) (refusal (valueOf (nth 13 l))) (kernelBack (nth 15 l)))
-    (Comparison.Differs (addressBack l) (wordBack (drop 5 l)))))
-
--- a line that begins with a digit is not `same`
+-- by the letter after the address: e, r, or that of a field's word
 abbrev afterAddress : List ℕ → Comparison
 afterAddress l =
     cond (eqb (nth 5 l) 101) (Comparison.Ended (addressBack l) (kernelBack (nth 11 l)))
     (cond (eqb (nth 5 l) 114) (Comparison.Refused (addressBack l) (refusal (valueOf (nth 13 l))) (kernelBack (nth 15 l)))
     (Comparison.Differs (addressBack l) (wordBack (drop 5 l))))
 
+-- s is the first letter of `same`
+abbrev lineBack : List ℕ → Comparison
+lineBack l = cond (eqb (nth 0 l) 115) Comparison.Same (afterAddress l)
+
+-- a line that begins with a digit is not `same`
 not-same : (at : ℕ) → at < 65536 → (words : List ℕ) → lineBack (atAddress at words) ≡ afterAddress (atAddress at words)
 not-same at h words =
     let l = digit-below (at / 256 / 16) (omega arith) in
@@ -168,8 +164,8 @@ short-word (Field.Other bit) = go (ltb bit 10)
 short-word Field.Hint = omega arith
 short-word Field.Bit = omega arith
 
--- Sixteen characters have room for every line, and no line is empty.
-pub line-length : (c : Comparison) → (0 < length (lineOf c)) × (length (lineOf c) ≤ 16)
+-- A line has four characters at least, and sixteen at most.
+pub line-length : (c : Comparison) → (4 ≤ length (lineOf c)) × (length (lineOf c) ≤ 16)
 unfolding lineOf
 line-length Comparison.Same = omega arith
 line-length (Comparison.Differs at f) = omega (arith, short-word f)

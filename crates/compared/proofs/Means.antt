@@ -2,22 +2,21 @@
 -- stands at the address in each kernel, and that all bytes before it are equal.
 use mathlib.Core.Path.{_≡_, refl, sym, ap, ap₂, _∙_}
 use mathlib.Core.Bool.{Bool, true, false, cond}
-use mathlib.Core.List.{List, [], _∷_}
+use mathlib.Core.List.{List}
 use mathlib.Core.Logic.{_↔_, _⊎_, inl, inr}
-use mathlib.Core.Option.{Option, none, some}
+use mathlib.Core.Option.{none}
 use Prim.Native.Nat.{ℕ, _≤_, _<_}
 use native.Mathlib.Omega.{arith}
 use lib.Dec.{leb}
-use lib.ListN.{length, take, drop}
+use lib.ListN.{length, take}
 use lib.Seq.{take-length}
-use borrow.Author.Tests.{le-leb, lt-leb, leb-true, leb-false}
+use borrow.Author.Tests.{le-leb, leb-true, leb-false}
 use Rattle.bits.proofs.Laws.{Bytes}
 use Rattle.isa.specs.Refusal.{refusal}
-use Rattle.isa.specs.Decode.{decodeOf}
 use Rattle.isa.specs.declared.answer.Refusal.{Refusal}
 use Rattle.isa.specs.declared.answer.Decoded.{Decoded}
 use Rattle.isa.specs.declared.instruction.Instruction.{Instruction}
-use Rattle.walk.specs.Walk.{Walk, refused, walkFrom, walkOf, limit, refusalOf}
+use Rattle.walk.specs.Walk.{refused, walkFrom, walkOf, limit, refusalOf}
 use Rattle.comparison.specs.Order.{order, differenceOf}
 use Rattle.comparison.specs.Compare.{compareOf}
 use Rattle.comparison.specs.declared.Field.{Field}
@@ -128,7 +127,7 @@ same-exactly a b ha hb =
 
 -- ---- a field, an end, a refusal
 
--- at the address both kernels have an instruction, of the same bytes before it, and this is the first field in which they differ
+-- all bytes before the address are equal, both kernels have an instruction there, and this is the first field in which they differ
 pub record DiffersAt (a b : List ℕ) (at : ℕ) (f : Field) : Type 0 where
   pub before : take at a ≡ take at b
   pub i : Instruction

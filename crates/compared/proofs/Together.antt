@@ -1,14 +1,13 @@
 -- Two walks side by side: how far they go together, and where they stop. What the comparison answers follows from what stands there.
-use mathlib.Core.Path.{_≡_, refl, sym, ap, ap₂, _∙_, subst}
-use mathlib.Core.Bool.{Bool, true, false, cond}
-use mathlib.Core.List.{List, [], _∷_, _++_}
-use Prim.Native.Nat.{ℕ, zero, suc, _+_, _-_, _≤_, _<_}
-use native.Mathlib.Nat.{not-suc-le-zero}
+use mathlib.Core.Path.{_≡_, refl, sym, ap, ap₂, _∙_}
+use mathlib.Core.Bool.{Bool, true, false}
+use mathlib.Core.List.{List, _++_}
+use Prim.Native.Nat.{ℕ, zero, suc, _+_, _≤_, _<_}
 use native.Mathlib.Omega.{arith}
-use lib.Dec.{leb, ltb}
-use lib.ListN.{length, take, drop, length-take, length-drop, drop-of-length-le}
+use lib.Dec.{ltb}
+use lib.ListN.{length, take, drop, length-drop, drop-of-length-le}
 use lib.Seq.{take-add, length-take-le}
-use borrow.Author.Tests.{ltb-true, ltb-false, le-leb, leb-true}
+use borrow.Author.Tests.{ltb-true, ltb-false, le-leb}
 use Rattle.bits.proofs.Laws.{Bytes, bytes-drop}
 use Rattle.isa.specs.Decode.{decodeOf}
 use Rattle.isa.specs.declared.answer.Refusal.{Refusal}
@@ -65,7 +64,7 @@ rest-finds code at i n f =
     step-at code at (f .0) ∙ ap (λ (d : Decoded). stepBy d (λ a s. rest code a) at (drop at code)) (f .1)
 
 -- an instruction lies in the code, and has that many bytes
-lies : (code : List ℕ) (at : ℕ) (i : Instruction) (n : ℕ) → Finds code at i n
+pub lies : (code : List ℕ) (at : ℕ) (i : Instruction) (n : ℕ) → Finds code at i n
     → (4 ≤ n) × (at + n ≤ length code) × (length (take n (drop at code)) ≡ n)
 lies code at i n f =
     let l = found-length (drop at code) i n (f .1) in

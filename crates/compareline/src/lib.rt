@@ -1,9 +1,7 @@
 // The line of a comparison's answer, without a line feed.
 ghost use mathlib.Core.Path.{_≡_};
-ghost use Prim.Native.Nat.{_+_, _≤_, _<_};
-ghost use mathlib.Core.List.{_++_};
+ghost use Prim.Native.Nat.{_<_};
 ghost use lib.ListN.{length, take};
-ghost use lib.Seq.{sets};
 ghost use Rattle.isa.specs.Text.{ascii};
 ghost use Rattle.comparison.specs.AnswerLine.{lineOf, atAddress, writtenOf, lineLeft, Printable};
 ghost use Rattle.compareline.specs.Words.{Sized};

@@ -1,7 +1,6 @@
 // The words of an answer after its address: the first `length` characters of a text of eleven.
 ghost use mathlib.Core.Path.{_≡_};
-ghost use Prim.Native.Nat.{_≤_, _<_};
-ghost use lib.ListN.{length, take};
+ghost use Prim.Native.Nat.{_<_};
 ghost use Rattle.comparison.specs.AnswerLine.{wordOf, kernelNumber, endedWords, refusedWords, Short};
 ghost use Rattle.comparison.specs.declared.Field.{Field};
 ghost use Rattle.hex.specs.Hex.{digit};

@@ -61,7 +61,7 @@ lineLeft line old = cond (leb (length line) (length old)) (line ++ drop (length 
 
 -- ---- which answers a line can tell
 
--- a bit number of two digits
+-- a bit number of at most two decimal digits
 abbrev pub Short : Field → Type 0
 Short Field.Instruction = Unit {0}
 Short Field.Length = Unit {0}
@@ -74,7 +74,7 @@ Short (Field.Other bit) = bit < 100
 Short Field.Hint = Unit {0}
 Short Field.Bit = Unit {0}
 
--- and an address of four
+-- and an address of at most four hexadecimal ones
 abbrev pub Printable : Comparison → Type 0
 Printable Comparison.Same = Unit {0}
 Printable (Comparison.Differs at f) = (at < 65536) × Short f

@@ -1,5 +1,5 @@
 -- The comparison of two kernels: both are walked from address 0, side by side, until one walk is refused, one ends, or they differ.
--- Follows the change request "The two-kernel comparison".
+-- Follows the change request "The two-kernel comparison" and docs/DECISIONS.md, entry 73.
 use Prim.Native.Nat.{ℕ}
 use mathlib.Core.Bool.{cond}
 use mathlib.Core.List.{List}

@@ -1,14 +1,14 @@
 -- The fields of an instruction in the order in which two are compared, one list, and the first in which they differ. Follows the change
--- request "The two-kernel comparison" and docs/DECISIONS.md, entries 71 to 73. A field is called by the names that it has in its
--- diagram, and its lowest bit is looked up there.
+-- request "The two-kernel comparison" and docs/DECISIONS.md, entries 71 and 72. A field is called by the names that it has in its
+-- diagram, and its lowest bit is looked up in the first diagram that has it.
 use Prim.Native.Nat.{ℕ}
 use Prim.Native.String.{String}
-use mathlib.Core.Bool.{Bool, true, false, cond}
+use mathlib.Core.Bool.{Bool, cond}
 use mathlib.Core.List.{List, [], _∷_, _++_, map}
 use lib.Dec.{eqb}
 use lib.Text.{eqt}
 use Rattle.bits.specs.Lists.{eqList}
-use Rattle.isa.specs.Diagram.{Diagram, Field as Named, fieldMask}
+use Rattle.isa.specs.Diagram.{Diagram, Field as DiagramField, fieldMask}
 use Rattle.isa.specs.Rows.{rows}
 use Rattle.isa.specs.Parts.{partsOf, placeOf, keptOf}
 use Rattle.isa.specs.declared.parts.Slot.{Slot}
@@ -20,7 +20,7 @@ use Rattle.comparison.specs.declared.Difference.{Difference}
 -- ---- the lowest bit of a field
 
 -- in a diagram's fields
-abbrev pub lowIn : List Named → String → ℕ
+abbrev pub lowIn : List DiagramField → String → ℕ
 lowIn [] name = 0
 lowIn (f ∷ fs) name = cond (eqt (f .name) name) (f .at .lo) (lowIn fs name)
 

@@ -31,26 +31,26 @@ names =
     "L" ∷ "imm16" ∷ "imm32" ∷ "SRx" ∷ "SR" ∷ "S" ∷ "As" ∷ "N" ∷ "Bs" ∷ "s2" ∷ "s1" ∷ "Cs" ∷ "m3" ∷ "m2" ∷ "m1" ∷ "tt0" ∷ "tt1" ∷ "tt2"
     ∷ "tt3" ∷ "off" ∷ "ccn" ∷ "n" ∷ "cc" ∷ []
 
--- two fields joined, and three: what each holds of the number
-abbrev pub sixes : ℕ → List ℕ
-sixes x = x / 64 ∷ x % 64 ∷ []
+-- joined fields, SRx:SR, s2:s1 and m3:m2:m1: what each holds of the number
+abbrev pub srFields : ℕ → List ℕ
+srFields x = x / 64 ∷ x % 64 ∷ []
 
-abbrev pub ones : ℕ → List ℕ
-ones x = x / 2 ∷ x % 2 ∷ []
+abbrev pub shiftFields : ℕ → List ℕ
+shiftFields x = x / 2 ∷ x % 2 ∷ []
 
-abbrev pub twos : ℕ → List ℕ
-twos x = x / 16 ∷ x / 4 % 4 ∷ x % 4 ∷ []
+abbrev pub mFields : ℕ → List ℕ
+mFields x = x / 16 ∷ x / 4 % 4 ∷ x % 4 ∷ []
 
 -- the number of mov16, mov32, get_sr or a jump
-abbrev pub numberIn : ℕ → ℕ → Parts → ℕ
-numberIn low high p = numberFor low high (p .kind) (p .immediate)
+abbrev pub kindNumber : ℕ → ℕ → Parts → ℕ
+kindNumber low high p = numberFor low high (p .kind) (p .immediate)
 
 abbrev pub told : Parts → List ℕ
 told p =
-    p .l ∷ numberIn 1 1 p ∷ numberIn 2 2 p ∷ numberIn 3 3 p / 64 ∷ numberIn 3 3 p % 64
+    p .l ∷ kindNumber 1 1 p ∷ kindNumber 2 2 p ∷ kindNumber 3 3 p / 64 ∷ kindNumber 3 3 p % 64
     ∷ p .signs .saturate ∷ p .signs .sa ∷ p .signs .negate ∷ p .signs .sb ∷ p .signs .shift / 2 ∷ p .signs .shift % 2 ∷ p .signs .sc
     ∷ p .m / 16 ∷ p .m / 4 % 4 ∷ p .m % 4 ∷ p .truth .tt0 ∷ p .truth .tt1 ∷ p .truth .tt2 ∷ p .truth .tt3
-    ∷ numberIn 17 18 p ∷ p .condition .ccn ∷ p .condition .n ∷ p .condition .cc ∷ []
+    ∷ kindNumber 17 18 p ∷ p .condition .ccn ∷ p .condition .n ∷ p .condition .cc ∷ []
 
 pub in-parts : (i : Instruction) → fieldsOf names i ≡ told (partsOf i)
 unfolding fieldsFor partsOf
@@ -180,11 +180,11 @@ joined f injective x y = go (eqList (f x) (f y)) refl (eqb x y) refl
 abbrev nth : ℕ → List ℕ → ℕ
 nth k l = getD l k 0
 
-by-sixes : (x y : ℕ) → eqList (sixes x) (sixes y) ≡ eqb x y
-by-sixes = joined sixes (λ x y e. let h : x / 64 ≡ y / 64 = ap (nth 0) e in let l : x % 64 ≡ y % 64 = ap (nth 1) e in omega arith)
+by-sr : (x y : ℕ) → eqList (srFields x) (srFields y) ≡ eqb x y
+by-sr = joined srFields (λ x y e. let h : x / 64 ≡ y / 64 = ap (nth 0) e in let l : x % 64 ≡ y % 64 = ap (nth 1) e in omega arith)
 
-by-ones : (x y : ℕ) → eqList (ones x) (ones y) ≡ eqb x y
-by-ones = joined ones (λ x y e. let h : x / 2 ≡ y / 2 = ap (nth 0) e in let l : x % 2 ≡ y % 2 = ap (nth 1) e in omega arith)
+by-shift : (x y : ℕ) → eqList (shiftFields x) (shiftFields y) ≡ eqb x y
+by-shift = joined shiftFields (λ x y e. let h : x / 2 ≡ y / 2 = ap (nth 0) e in let l : x % 2 ≡ y % 2 = ap (nth 1) e in omega arith)
 
 pub deeper : (x : ℕ) → x / 16 ≡ x / 4 / 4
 deeper x = omega arith
@@ -192,9 +192,9 @@ deeper x = omega arith
 pub quarters : (x y : ℕ) → x / 4 ≡ y / 4 → x % 4 ≡ y % 4 → x ≡ y
 quarters x y h l = omega arith
 
-by-twos : (x y : ℕ) → eqList (twos x) (twos y) ≡ eqb x y
-by-twos =
-    joined twos
+by-m : (x y : ℕ) → eqList (mFields x) (mFields y) ≡ eqb x y
+by-m =
+    joined mFields
     (λ x y e.
     quarters x y (quarters (x / 4) (y / 4) (sym (deeper x) ∙ ap (nth 0) e ∙ deeper y) (ap (nth 1) e)) (ap (nth 2) e))
 
@@ -282,9 +282,9 @@ codeTests p n q m =
     ∷ test (sameOperand (p .a) (q .a)) 4
     ∷ test (sameOperand (p .b) (q .b)) 5
     ∷ test (sameOperand (p .c) (q .c)) 6
-    ∷ test (eqb (numberIn 1 1 p) (numberIn 1 1 q)) 7
-    ∷ test (eqb (numberIn 2 2 p) (numberIn 2 2 q)) 7
-    ∷ test (eqb (numberIn 3 3 p) (numberIn 3 3 q)) 26
+    ∷ test (eqb (kindNumber 1 1 p) (kindNumber 1 1 q)) 7
+    ∷ test (eqb (kindNumber 2 2 p) (kindNumber 2 2 q)) 7
+    ∷ test (eqb (kindNumber 3 3 p) (kindNumber 3 3 q)) 26
     ∷ test (eqb (p .signs .saturate) (q .signs .saturate)) 16
     ∷ test (eqb (p .signs .sa) (q .signs .sa)) 36
     ∷ test (eqb (p .signs .negate) (q .signs .negate)) 37
@@ -296,7 +296,7 @@ codeTests p n q m =
     ∷ test (eqb (p .truth .tt1) (q .truth .tt1)) 37
     ∷ test (eqb (p .truth .tt2) (q .truth .tt2)) 48
     ∷ test (eqb (p .truth .tt3) (q .truth .tt3)) 49
-    ∷ test (eqb (numberIn 17 18 p) (numberIn 17 18 q)) 26
+    ∷ test (eqb (kindNumber 17 18 p) (kindNumber 17 18 q)) 26
     ∷ test (eqb (p .condition .ccn) (q .condition .ccn)) 18
     ∷ test (eqb (p .condition .n) (q .condition .n)) 21
     ∷ test (eqb (p .condition .cc) (q .condition .cc)) 23
@@ -341,11 +341,11 @@ list-code p n q m h g =
     then operand (p .b) (q .b)
     then operand (p .c) (q .c)
     then refl both one _
-    then by-sixes (numberIn 3 3 p) (numberIn 3 3 q)
+    then by-sr (kindNumber 3 3 p) (kindNumber 3 3 q)
     then one _ then one _ then one _ then one _
-    then by-ones (p .signs .shift) (q .signs .shift)
+    then by-shift (p .signs .shift) (q .signs .shift)
     then one _
-    then by-twos (p .m) (q .m)
+    then by-m (p .m) (q .m)
     then one _ then one _ then one _ then one _ then one _ then one _ then one _ then one _
     then refl both refl both refl both one _
     then one _

@@ -37,6 +37,7 @@ const TT2: u8 = OTHER + 38;
 const TT3: u8 = OTHER + 39;
 const OFF: u8 = OTHER + 16;
 const CCN: u8 = OTHER + 8;
+// n of the mask instructions
 const DEPTH: u8 = OTHER + 11;
 const CC: u8 = OTHER + 13;
 

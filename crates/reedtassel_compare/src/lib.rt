@@ -1,5 +1,4 @@
 // The comparison for C: two kernels as byte slices, the line of the answer in a lent buffer. docs/c-interface.md has it.
-ghost use lib.ListN.{length};
 ghost use Rattle.reedtassel_compare.specs.Compare.{Compares};
 
 // The line without a line feed, and its length. Where the buffer is too short for it, -1, and nothing is written.

@@ -39,6 +39,7 @@ abbrev pub stepOf : Turn → ℕ
 stepOf (Turn.On n) = n
 stepOf (Turn.Stop a) = 0
 
+-- where both go on, there is no answer yet
 abbrev pub answerOf : Turn → Comparison
-answerOf (Turn.On n) = Comparison.Same
+answerOf (Turn.On n) = Comparison.Refused 0 (refusal 1) Kernel.First
 answerOf (Turn.Stop a) = a

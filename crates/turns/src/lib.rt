@@ -81,12 +81,12 @@ pub fn step_of(t: Turn) -> usize
     }
 }
 
-// What the comparison answers where it does not go on
+// What the comparison answers where it stops. Where it goes on it is not asked, and would be refused.
 pub fn answer_of(t: Turn) -> Comparison
     ensures { λ r. ⌜ r ≡ answerOf t ⌝ }
 {
     match t {
-        Turn::On(_) => Comparison::Same,
+        Turn::On(_) => Comparison::Refused(0, Refusal::BadSize, Kernel::First),
         Turn::Stop(a) => a,
     }
 }

@@ -34,7 +34,7 @@ walkFrom (suc k) at (b ∷ s) =
     (λ i n. stepped at (take n (b ∷ s)) i (walkFrom k (at + n) (drop n (b ∷ s))))
     (λ r. refused at r)
 
--- the most bytes that are listed
+-- the most bytes of a kernel that is walked
 abbrev pub limit : ℕ
 limit = 8192
 

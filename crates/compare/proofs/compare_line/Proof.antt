@@ -1,7 +1,5 @@
 -- Every answer of a comparison can be told by a line.
-use mathlib.Core.Path.{_≡_, sym, ap, _∙_, subst}
-use Prim.Native.Nat.{ℕ}
-use mathlib.Core.List.{List}
+use mathlib.Core.Path.{sym, ap, _∙_, subst}
 use lib.ListN.{length}
 use Rattle.comparison.specs.AnswerLine.{lineOf, writtenOf, lineLeft, Printable}
 use Rattle.comparison.specs.declared.Comparison.{Comparison}

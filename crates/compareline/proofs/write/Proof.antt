@@ -2,7 +2,7 @@
 use mathlib.Core.Path.{_≡_, ap, _∙_}
 use mathlib.Core.List.{List}
 use Prim.Native.Nat.{ℕ}
-use lib.ListN.{length, take}
+use lib.ListN.{length}
 use Rattle.comparison.specs.AnswerLine.{lineOf, atAddress, writtenOf, lineLeft}
 use borrow.Author.Needs.{needs}
 use Rattle.compareline.proofs.write.Statement.{statement}

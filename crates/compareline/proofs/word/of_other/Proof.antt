@@ -6,11 +6,11 @@ use Rattle.compareline.proofs.word.of_other.Statement.{statement}
 use Rattle.compareline.proofs.word.of_other.Tie as tie
 
 returns : tie.Need-returns
-returns c = (rw (c .hex-digit .ensures, lt-ltb _ 10 (c .before .if1 .taken)), (omega arith, refl))
+returns c = (rw (c .hex-digit .ensures, lt-ltb _ 10 (c .before .if1 .taken)), (omega arith, refl), refl)
 
 returns-2 : tie.Need-returns-2
 returns-2 c =
-    (rw (le-ltb _ 10 (c .before .before .if1 .left), c .hex-digit3 .ensures, c .before .hex-digit2 .ensures), (omega arith, refl))
+    (rw (le-ltb _ 10 (c .before .before .if1 .left), c .hex-digit3 .ensures, c .before .hex-digit2 .ensures), (omega arith, refl), refl)
 
 pub of-other-spec : {M : Type 1} → statement M
 of-other-spec =

@@ -10,7 +10,7 @@ hex-digit-requires c κs = omega (arith, number-below (c .before .before .before
 
 returns : tie.Need-returns
 returns c =
-    (rw (c .kernel-digit .ensures, c .before .hex-digit .ensures, c .before .before .number .ensures), (omega arith, refl))
+    (rw (c .kernel-digit .ensures, c .before .hex-digit .ensures, c .before .before .number .ensures), (omega arith, refl), refl)
 
 pub of-refused-spec : {M : Type 1} → statement M
 of-refused-spec =
