@@ -1,5 +1,7 @@
 // What encoding answers: the number of bytes, or 8, or 9.
 ghost use mathlib.Core.Path.{_≡_};
+ghost use Rattle.isa.specs.Refusal.{refusal};
+ghost use Rattle.isa.specs.declared.answer.Encoded.{Encoded};
 ghost use Rattle.answers.specs.Encoded.{answerBy, countOf};
 
 use isa::answer::Encoded;
@@ -16,6 +18,13 @@ pub fn answer(accepted: bool, n: usize, room: usize) -> Encoded
         return Encoded::Refused(Refusal::ShortBuffer);
     }
     Encoded::Refused(Refusal::NoEncoding)
+}
+
+// Bytes that spell no instruction.
+pub fn spells_none() -> Encoded
+    ensures { λ r. ⌜ r ≡ Encoded.Refused (refusal 8) ⌝ }
+{
+    return Encoded::Refused(Refusal::NoEncoding);
 }
 
 // How many bytes are written under an answer.

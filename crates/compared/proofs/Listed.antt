@@ -18,11 +18,10 @@ use Rattle.hex.specs.Hex.{digit, hexBytes, hexAddress}
 use Rattle.lines.specs.Line.{tailAt, lineAt, lineOf, endLine, refusedLine}
 use Rattle.listing.specs.Listing.{textOf, listingOf}
 use Rattle.walk.specs.Walk.{Walk, ended, refused, stepped, walkFrom, walkOf, limit}
-use Rattle.comparison.specs.Order.{Entry, others, order, firstOf, differenceOf, agrees}
+use Rattle.comparison.specs.Order.{Entry, others, order, differenceOf}
 use Rattle.comparison.specs.Compare.{compareOf}
 use Rattle.comparison.specs.AnswerLine.{Short, Printable}
 use Rattle.comparison.specs.declared.Field.{Field}
-use Rattle.comparison.specs.declared.Difference.{Difference}
 use Rattle.comparison.specs.declared.Comparison.{Comparison}
 use Rattle.compared.proofs.First.{named-in}
 use Rattle.compared.proofs.Together.{Stands, ends, finds, refuses, stands, within, rest, rest-ends, rest-finds, rest-refuses}

@@ -7,7 +7,6 @@ use bits::piece;
 use form::Spelled;
 use isa::answer::Decoded;
 use isa::answer::Encoded;
-use isa::answer::Refusal;
 use isa::instruction::Instruction;
 
 fn is_found(d: Decoded, i: Instruction, n: usize) -> bool
@@ -29,7 +28,7 @@ fn is_found(d: Decoded, i: Instruction, n: usize) -> bool
 pub fn encode(i: Instruction, out: &mut [u8]) -> Encoded
     ensures { λ r. ⌜ (r ≡ encodedOf i (now (out .entry))) × (now (out .exit) ≡ encodingLeft i (now (out .entry))) ⌝ }
 {
-    let n = numbers::length_of(parts::parts_of(i));
+    let n = lengths::length_of(parts::parts_of(i));
     let b = bits::bytes_of(writing::word_for(i));
     let a = encoded::answer(is_found(decode::decode(&b[..n]), i, n), n, out.len());
     let k = encoded::written(a);
@@ -44,6 +43,6 @@ pub fn encode_form(form: &[u8], out: &mut [u8]) -> Encoded
 {
     match form::from_bytes(form) {
         Spelled::Is(i) => encode(i, out),
-        Spelled::None => Encoded::Refused(Refusal::NoEncoding),
+        Spelled::None => encoded::spells_none(),
     }
 }

@@ -21,7 +21,7 @@ use Rattle.isa.specs.declared.parts.Condition.{Condition}
 use Rattle.isa.specs.declared.parts.Parts.{Parts}
 use Rattle.isa.specs.Parts.{hintNumber, destinationSlot, sourceSlot, dstSlot, srcSlot, noSlot, noSigns, noTruth, noCondition}
 use Rattle.isa.specs.Parts.{signsOf, truthOf, conditionOf, ofDst, ofUnary, ofBinary, ofTernary, ofJump, ofPop, ofCompare, partsOf, lengthFor}
-use Rattle.numbers.proofs.Length.{length-for}
+use Rattle.lengths.proofs.Length.{length-for}
 use Rattle.form.specs.Form.{layOut, formOf}
 use Rattle.form.specs.Fits.{U8, Fits}
 

@@ -6,7 +6,7 @@ use bits::equal;
 use formread::instruction_from;
 use isa::instruction::Instruction;
 use layout::lay_out;
-use numbers::length_of;
+use lengths::length_of;
 use parts::parts_of;
 
 // What bytes spell: an instruction, or none.

@@ -6,7 +6,7 @@ use Prim.Native.Nat.{ℕ, _≤_, zero-le}
 use lib.Dec.{leb}
 use lib.ListN.{length}
 use Rattle.isa.specs.declared.answer.Encoded.{Encoded}
-use Rattle.numbers.proofs.Length.{length-for}
+use Rattle.lengths.proofs.Length.{length-for}
 use Rattle.form.specs.Form.{spelledOf}
 use Rattle.form.specs.declared.Spelled.{Spelled}
 use Rattle.encode.specs.Encode.{lengthOf, accepts, encodedOf, encodedSpelled, encodedFrom}

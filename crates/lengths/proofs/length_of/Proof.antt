@@ -4,9 +4,9 @@ use mathlib.Core.Bool.{true, false}
 use native.Mathlib.Omega.{arith}
 use lib.Dec.{eqb}
 use Rattle.isa.specs.Rows.{rows}
-use Rattle.numbers.proofs.Length.{length-at, length-past}
-use Rattle.numbers.proofs.length_of.Statement.{statement}
-use Rattle.numbers.proofs.length_of.Tie as tie
+use Rattle.lengths.proofs.Length.{length-at, length-past}
+use Rattle.lengths.proofs.length_of.Statement.{statement}
+use Rattle.lengths.proofs.length_of.Tie as tie
 
 returns : tie.Need-returns
 unfolding rows
