@@ -4,19 +4,10 @@ ghost use mathlib.Core.Path.{_≡_};
 ghost use Prim.Native.Nat.{_<_, _^_};
 ghost use Rattle.machine.specs.Step.{registersReach, specialsReach, goingOf};
 ghost use Rattle.operations.specs.Action.{meaningBy};
-ghost use Rattle.going.specs.AsGoing.{asGoing};
-
-mod jump;
-mod reach;
+ghost use Rattle.jumps.specs.AsGoing.{asGoing};
 
 use operations::action::Action;
-use isa::answer::Refusal;
-
-// The address to go on at and the class of the step, or the refusal.
-pub enum Going {
-    To(usize, u8),
-    Nowhere(Refusal),
-}
+use jumps::Going;
 
 // How many registers there have to be.
 pub fn registers_reach(action: Action) -> usize
@@ -48,8 +39,8 @@ pub fn goes_to(action: Action, length: usize, bytes: usize, address: usize, mask
         Action::Writes { d: _, a: _, b: _, c: _, operation: _ } => Going::To(address + bytes, 1),
         Action::Masks { a: _, b: _, operation: _ } => Going::To(address + bytes, 2),
         Action::Jumps { any, off } => {
-            if jump::taken(any, mask) {
-                jump::landing(length, address, off)
+            if jumps::taken(any, mask) {
+                jumps::landing(length, address, off)
             } else {
                 Going::To(address + bytes, 3)
             }

@@ -9,7 +9,7 @@ ghost use Rattle.lanes.specs.Sources.{lent};
 ghost use Rattle.step.specs.Told.{told, toldBy, takenBy};
 
 use operations::action::Action;
-use going::Going;
+use jumps::Going;
 use isa::answer::Decoded;
 use isa::answer::Refusal;
 

@@ -7,7 +7,7 @@ use denote.Ref.{now}
 use Rattle.machine.specs.State.{Threads, threadsAt, stateAt}
 use Rattle.machine.specs.Step.{registersReach, specialsReach}
 use Rattle.operations.specs.Action.{meaningBy}
-use Rattle.going.specs.AsGoing.{asGoing}
+use Rattle.jumps.specs.AsGoing.{asGoing}
 use Rattle.lanes.specs.Sources.{lent}
 use Rattle.step.specs.Told.{goes}
 use Rattle.step.proofs.Taken.{no-register, no-special, gone}

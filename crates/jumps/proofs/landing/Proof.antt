@@ -1,8 +1,8 @@
 use borrow.Author.Needs.{needs}
 use native.Mathlib.Omega.{arith}
-use Rattle.going.proofs.Jumps.{forward, back, too-far-back}
-use Rattle.going.proofs.jump.landing.Statement.{statement}
-use Rattle.going.proofs.jump.landing.Tie as tie
+use Rattle.jumps.proofs.Jumps.{forward, back, too-far-back}
+use Rattle.jumps.proofs.landing.Statement.{statement}
+use Rattle.jumps.proofs.landing.Tie as tie
 
 returns : tie.Need-returns
 returns c =

@@ -1,6 +1,6 @@
 use borrow.Author.Needs.{needs}
-use Rattle.going.proofs.reach.source.Statement.{statement}
-use Rattle.going.proofs.reach.source.Tie as tie
+use Rattle.reach.proofs.source.Statement.{statement}
+use Rattle.reach.proofs.source.Tie as tie
 
 returns : tie.Need-returns
 returns c = rw (c .index .ensures, c .before .before .s .given .1)

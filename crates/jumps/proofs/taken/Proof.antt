@@ -1,5 +1,5 @@
-use Rattle.going.proofs.jump.taken.Statement.{statement}
-use Rattle.going.proofs.jump.taken.Tie as tie
+use Rattle.jumps.proofs.taken.Statement.{statement}
+use Rattle.jumps.proofs.taken.Tie as tie
 
 returns : tie.Need-returns
 returns c = rw (c .if1 .taken)

@@ -1,8 +1,8 @@
 use Prim.Native.Nat.{_%_}
 use native.Mathlib.Omega.{arith}
 use borrow.Author.Tests.{eq-eqb, ne-eqb, le-leb, lt-leb}
-use Rattle.going.proofs.jump.at.Statement.{statement}
-use Rattle.going.proofs.jump.at.Tie as tie
+use Rattle.jumps.proofs.at.Statement.{statement}
+use Rattle.jumps.proofs.at.Tie as tie
 
 returns : tie.Need-returns
 returns c = rw (ne-eqb (c .before .args .target % 2) 0 (λ e. omega (arith, e, c .if1 .taken)))

@@ -1,6 +1,6 @@
 use borrow.Author.Needs.{needs}
-use Rattle.going.proofs.reach.special.Statement.{statement}
-use Rattle.going.proofs.reach.special.Tie as tie
+use Rattle.reach.proofs.special.Statement.{statement}
+use Rattle.reach.proofs.special.Tie as tie
 
 returns-3 : tie.Need-returns-3
 returns-3 c = rw (c .index .ensures, c .before .before .x .given .1)

@@ -1,6 +1,6 @@
 use borrow.Author.Needs.{needs}
-use Rattle.going.proofs.reach.destination.Statement.{statement}
-use Rattle.going.proofs.reach.destination.Tie as tie
+use Rattle.reach.proofs.destination.Statement.{statement}
+use Rattle.reach.proofs.destination.Tie as tie
 
 returns : tie.Need-returns
 returns c = rw (c .index .ensures, c .before .before .d .given .1)

@@ -4,9 +4,14 @@ ghost use Prim.Native.Nat.{_<_, _^_};
 ghost use lib.IntN.{pos, _+ℤ_};
 ghost use Rattle.machine.specs.Integer.{signExtend};
 ghost use Rattle.machine.specs.Step.{taken, landing};
-ghost use Rattle.going.specs.AsGoing.{asGoing};
-use crate::Going;
+ghost use Rattle.jumps.specs.AsGoing.{asGoing};
 use isa::answer::Refusal;
+
+// The address to go on at and the class of the step, or the refusal.
+pub enum Going {
+    To(usize, u8),
+    Nowhere(Refusal),
+}
 
 pub fn taken(any: bool, mask: u32) -> bool
     ensures { λ r. ⌜ r ≡ taken any mask ⌝ }
