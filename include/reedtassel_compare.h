@@ -1,8 +1,8 @@
 /*
  * reedtassel_compare.h: compares two kernels of the G13 GPU.
  *
- * Link libreedtassel_compare.a, which `./reedtassel lib` builds (Linux on x86-64). It needs no other library, and can
- * be linked beside libreedtassel.a. docs/compare.md says what a line means, docs/c-interface.md has a worked example.
+ * Link libreedtassel_compare.a, which `./reedtassel lib` builds (Linux on x86-64). It needs the C library alone, and
+ * can be linked beside libreedtassel.a. docs/compare.md says what a line means, docs/c-interface.md has a worked example.
  */
 #ifndef REEDTASSEL_COMPARE_H
 #define REEDTASSEL_COMPARE_H
