@@ -22,6 +22,8 @@
 #include <stddef.h>
 #include <stdint.h>
 
+#include "reedtassel_version.h"
+
 #ifdef __cplusplus
 extern "C" {
 #endif
