@@ -1,8 +1,9 @@
 /*
  * reedtassel.h: decodes, encodes and runs kernels of the G13 GPU.
  *
- * Link libreedtassel.a, which `./reedtassel lib` builds (Linux on x86-64). docs/c-interface.md has worked examples,
- * docs/byte-form.md the byte form of an instruction, docs/run.md what a run does.
+ * Link libreedtassel.a (Linux on x86-64). A release has it in lib/; in the sources `./reedtassel lib` builds it.
+ * docs/c-interface.md has worked examples, docs/byte-form.md the byte form of an instruction, docs/run.md what a run
+ * does.
  *
  * What holds for all three functions:
  *
@@ -45,9 +46,9 @@ extern "C" {
 /* Why a call is refused; the answer is minus this number. */
 enum reedtassel_refusal {
     REEDTASSEL_BAD_SIZE = 1,    /* a length, the offset, the budget or the start address is not as it must be */
-    REEDTASSEL_CUT_SHORT = 2,   /* the code ends inside the instruction */
+    REEDTASSEL_CUT_SHORT = 2,   /* the instruction is cut short: the input ends inside it */
     REEDTASSEL_NO_DIAGRAM = 3,  /* no instruction that is built has these bytes */
-    REEDTASSEL_NO_MEANING = 4,  /* an operand or a condition has no meaning */
+    REEDTASSEL_NO_MEANING = 4,  /* an operand or a condition of the instruction has no meaning */
     REEDTASSEL_NO_REGISTER = 5, /* a register, or the second of a pair, is not lent */
     REEDTASSEL_NO_SPECIAL = 6,  /* a special register is not lent */
     REEDTASSEL_BAD_TARGET = 7,  /* a taken jump to an odd address, below 0 or above the code length */
@@ -171,9 +172,9 @@ typedef char reedtassel_record_is_16_bytes[sizeof(struct reedtassel_record) == R
  * Above 0: the length of the instruction, 4, 6 or 8. Its byte form is written to the first 48 bytes of `instruction`,
  * and nothing after them.
  * -1: offset is above code_len; or the instruction was decoded, and instruction_len is below 48.
- * -2: the code ends inside the instruction; also where offset is code_len.
+ * -2: the instruction is cut short: the input ends inside it; also where offset is code_len.
  * -3: no instruction that is built has these bytes.
- * -4: an operand or a condition has no meaning.
+ * -4: an operand or a condition of the instruction has no meaning.
  * Refused, nothing is written. With -2, -3 and -4 nothing was to be written: they are given for a shorter buffer, too.
  */
 int32_t reedtassel_decode(const uint8_t *code, size_t code_len, size_t offset, uint8_t *instruction,

@@ -1,8 +1,9 @@
 /*
  * reedtassel_compare.h: compares two kernels of the G13 GPU.
  *
- * Link libreedtassel_compare.a, which `./reedtassel lib` builds (Linux on x86-64). It needs the C library alone, and
- * can be linked beside libreedtassel.a. docs/compare.md says what a line means, docs/c-interface.md has a worked example.
+ * Link libreedtassel_compare.a (Linux on x86-64). A release has it in lib/; in the sources `./reedtassel lib` builds it.
+ * It needs the C library alone, and can be linked beside libreedtassel.a. docs/compare.md says what a line means,
+ * docs/c-interface.md has a worked example.
  */
 #ifndef REEDTASSEL_COMPARE_H
 #define REEDTASSEL_COMPARE_H

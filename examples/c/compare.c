@@ -2,9 +2,9 @@
  * compare FIRST SECOND: compares two kernel files and prints the line. Exit status: 0 same; 1 they differ, or one
  * ended first; 2 refused, wrong usage, or a file that can't be read.
  *
- * From the top of the repository, after `./reedtassel lib`, in one line:
- * cc -std=c99 -Wall -Wextra -Werror -pedantic -Iinclude examples/c/compare.c target/staticlib/libreedtassel_compare.a
- *     -o compare
+ * From the top of a release, in one line:
+ * cc -std=c99 -Wall -Wextra -Werror -pedantic -Iinclude examples/c/compare.c lib/libreedtassel_compare.a -o compare
+ * In the sources the library is target/staticlib/libreedtassel_compare.a, after `./reedtassel lib`.
  */
 #include <errno.h>
 #include <stdio.h>

@@ -1,9 +1,10 @@
 /*
  * kernel FILE [BUDGET]: lists a kernel, encodes it again, and runs it for at most BUDGET steps.
  *
- * From the top of the repository, after `./reedtassel lib`, in one line:
+ * From the top of a release, in one line:
  * cc -std=c99 -Wall -Wextra -Werror -pedantic -Iinclude examples/c/kernel.c examples/c/listing.c examples/c/running.c
- *     target/staticlib/libreedtassel.a -o kernel
+ *     lib/libreedtassel.a -o kernel
+ * In the sources the library is target/staticlib/libreedtassel.a, after `./reedtassel lib`.
  */
 #include <errno.h>
 #include <stdio.h>
