@@ -31,10 +31,13 @@ run = int(os.read(news, 100))
 while not os.path.exists(copy + "/children"):
     time.sleep(0.01)
 time.sleep(float(os.environ.get("LATER", "0.05")))
-if how == "INT":
-    os.write(terminal, b"\x03")
-else:
-    os.kill(run, getattr(signal, "SIG" + how))
+# AGAIN: how long after the first the second comes
+for pause in (0, *map(float, os.environ.get("AGAIN", "").split())):
+    time.sleep(pause)
+    if how == "INT":
+        os.write(terminal, b"\x03")
+    else:
+        os.kill(run, getattr(signal, "SIG" + how))
 print(os.read(news, 100).decode().strip())
 
 
