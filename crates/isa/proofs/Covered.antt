@@ -9,6 +9,7 @@ use lib.ListN.{length}
 use lib.Text.{eqt}
 use Rattle.bits.proofs.Table.{all}
 use Rattle.isa.specs.Text.{ascii}
+use Rattle.isa.specs.Strip.{stripWidth}
 use Rattle.isa.specs.Diagram.{Diagram, Span, Fixed, Field, widthOf, spansOf}
 use Rattle.isa.specs.Rows.{rows}
 
@@ -44,7 +45,15 @@ oneDigitEach f = eqb (length (ascii (f .digits))) (widthOf (f .at)) && all isDig
 abbrev pub covered : Diagram → Bool
 covered d = each d (8 * d .bytes) && (all (within (8 * d .bytes)) (spans d) && all oneDigitEach (d .fixeds))
 
--- the statement over the list, closed by computation
+-- the statements over the list, closed by computation
 pub all-covered : T (all covered rows)
 unfolding rows
 all-covered = tt
+
+-- the widths of the cells add up to the length
+abbrev pub addsUp : Diagram → Bool
+addsUp d = eqb (stripWidth (d .strip)) (8 * d .bytes)
+
+pub all-add-up : T (all addsUp rows)
+unfolding rows
+all-add-up = tt

@@ -3,6 +3,7 @@ pub mod Forms
 pub mod Exclusive
 pub mod Covered
 pub mod Printed
+pub mod Before
 pub mod Cases
 pub mod Found
 pub mod WasRead

@@ -8,9 +8,16 @@ use lib.Dec.{T, eqb}
 use lib.ListN.{length}
 use lib.Text.{eqt}
 use Rattle.bits.proofs.Table.{all}
-use Rattle.isa.specs.Diagram.{Diagram, Fixed, fixed, Field, field, fixedMask, fixedValue}
+use Rattle.isa.specs.Diagram.{Diagram, Fixed, Field, fixedMask, fixedValue}
 use Rattle.isa.specs.Rows.{rows}
 use Rattle.isa.specs.Find.{Form, formsAt}
+
+-- fixed bits and a field, by their bit numbers
+abbrev pub fixed : ℕ → ℕ → String → Fixed
+fixed hi lo digits = record { at = record { hi = hi; lo = lo }; digits = digits }
+
+abbrev pub field : String → ℕ → ℕ → Field
+field name hi lo = record { name = name; at = record { hi = hi; lo = lo } }
 
 -- a diagram as printed: the heading word, the lengths it can have, its fixed bits and its fields
 pub record Printed : Type 0 where

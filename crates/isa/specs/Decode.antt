@@ -13,7 +13,7 @@ use Rattle.isa.specs.declared.answer.Decoded.{Decoded}
 
 -- what stands past the end of the list, and is never found
 abbrev pub noDiagram : Diagram
-noDiagram = diagram "" 0 [] [] [] (λ f kept. Reading.NoMeaning)
+noDiagram = diagram "" 0 (λ f kept. Reading.NoMeaning) []
 
 abbrev pub rowAt : ℕ → Diagram
 rowAt place = getD rows place noDiagram

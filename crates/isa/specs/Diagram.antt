@@ -1,13 +1,17 @@
--- A bit diagram of document 002, and what it says of a word: its fields by name, its "?" bits, its fixed bits as a mask and a value.
+-- A bit diagram of document 002: the fixed bits, the fields and the "?" bits of its strip, with their bit numbers; and what it says of a
+-- word: its fields by name, its "?" bits, its fixed bits as a mask and a value.
 use Prim.Native.Nat.{ℕ, suc, _+_, _*_, _-_, _^_}
 use Prim.Native.Char.{code}
 use Prim.Native.String.{String}
 use mathlib.Core.Bool.{cond}
-use mathlib.Core.List.{List, [], _∷_, map}
+use mathlib.Core.List.{List, [], _∷_, _++_, map}
 use lib.Bits.{bitAnd, bitOr}
+use lib.Dec.{eqb}
+use lib.ListN.{length}
 use lib.Text.{eqt}
 use Rattle.bits.specs.Word.{fieldOf}
 use Rattle.isa.specs.Text.{ascii}
+use Rattle.isa.specs.Strip.{Cell, fixedCell, fieldCell, unknownCell, twoLineCell, Strip, cellWidth}
 use Rattle.isa.specs.Bits.{Bits}
 use Rattle.isa.specs.declared.answer.Reading.{Reading}
 
@@ -25,31 +29,84 @@ pub record Field : Type 0 where
   pub name : String
   pub at : Span
 
-abbrev pub fixed : ℕ → ℕ → String → Fixed
-fixed h l d = record { at = record { hi = h; lo = l }; digits = d }
+-- n bits from lo up
+abbrev pub spanFrom : ℕ → ℕ → Span
+spanFrom lo n = record { hi = lo + n - 1; lo = lo }
 
-abbrev pub field : String → ℕ → ℕ → Field
-field n h l = record { name = n; at = record { hi = h; lo = l } }
+abbrev pub fixedFrom : ℕ → String → Fixed
+fixedFrom lo digits = record { at = spanFrom lo (length (ascii digits)); digits = digits }
 
--- bits that are printed "?"
-abbrev pub unknown : ℕ → ℕ → Span
-unknown h l = record { hi = h; lo = l }
+abbrev pub fieldFrom : ℕ → String → ℕ → Field
+fieldFrom lo name n = record { name = name; at = spanFrom lo n }
+
+-- ---- what a strip has, whose lowest bit is lo: each list from the low bits up
+
+-- the fixed ones of bits that are printed above a field
+abbrev pub fixedsAbove : ℕ → String → List Fixed
+fixedsAbove lo String.[] = []
+fixedsAbove lo (String._∷_ c cs) =
+    fixedsAbove lo cs
+    ++ cond (eqb (code c) (code "?")) [] (fixedFrom (lo + length (ascii cs)) (String._∷_ c String.[]) ∷ [])
+
+abbrev pub fixedsOf : ℕ → Strip → List Fixed
+fixedsOf lo [] = []
+fixedsOf lo (c ∷ cs) = here c ++ fixedsOf (lo + cellWidth c) cs
+  where
+    here : Cell → List Fixed
+    here (fixedCell digits) = fixedFrom lo digits ∷ []
+    here (fieldCell name n) = []
+    here (unknownCell n) = []
+    here (twoLineCell bits name) = fixedsAbove lo bits
+
+abbrev pub fieldsOf : ℕ → Strip → List Field
+fieldsOf lo [] = []
+fieldsOf lo (c ∷ cs) = here c ++ fieldsOf (lo + cellWidth c) cs
+  where
+    here : Cell → List Field
+    here (fixedCell digits) = []
+    here (fieldCell name n) = fieldFrom lo name n ∷ []
+    here (unknownCell n) = []
+    here (twoLineCell bits name) = fieldFrom lo name (length (ascii bits)) ∷ []
+
+-- a "?" above a field is the field's
+abbrev pub unknownsOf : ℕ → Strip → List Span
+unknownsOf lo [] = []
+unknownsOf lo (c ∷ cs) = here c ++ unknownsOf (lo + cellWidth c) cs
+  where
+    here : Cell → List Span
+    here (fixedCell digits) = []
+    here (fieldCell name n) = []
+    here (unknownCell n) = spanFrom lo n ∷ []
+    here (twoLineCell bits name) = []
+
+-- ---- diagrams
 
 -- what the fields of a word are, by name
 abbrev pub Fields : Type 0
 Fields = String → Bits
 
--- a diagram: its heading word, its length in bytes, its bits, and the instruction that its fields and its "?" bits make
+-- a diagram: its heading word, its length in bytes, its strip and what that has, and the instruction that its fields and its "?" bits
+-- make
 pub record Diagram : Type 0 where
   pub heading : String
   pub bytes : ℕ
+  pub strip : Strip
   pub fixeds : List Fixed
   pub fields : List Field
   pub unknowns : List Span
   pub read : Fields → ℕ → Reading
 
-abbrev pub diagram : String → ℕ → List Fixed → List Field → List Span → (Fields → ℕ → Reading) → Diagram
-diagram h n fx fs us r = record { heading = h; bytes = n; fixeds = fx; fields = fs; unknowns = us; read = r }
+abbrev pub diagram : String → ℕ → (Fields → ℕ → Reading) → Strip → Diagram
+diagram heading bytes read strip =
+    record {
+      heading = heading;
+      bytes = bytes;
+      strip = strip;
+      fixeds = fixedsOf 0 strip;
+      fields = fieldsOf 0 strip;
+      unknowns = unknownsOf 0 strip;
+      read = read
+    }
 
 -- ---- fields of a word
 

@@ -3,6 +3,7 @@ pub mod Text
 pub mod Bits
 pub mod Operand
 pub mod Together
+pub mod Strip
 pub mod Diagram
 pub mod Read
 pub mod Rows
