@@ -74,6 +74,10 @@ and-or w =
     (λ n ih a b. and-or-step n a b (ih (a / 2) (b / 2)))
     w
 
+-- what a mask cuts out of two numbers together
+pub or-and : (a b m : ℕ) → bitAnd (bitOr a b) m ≡ bitOr (bitAnd a m) (bitAnd b m)
+or-and a b m = and-comm (bitOr a b) m ∙ and-or m a b ∙ ap₂ bitOr (and-comm m a) (and-comm m b)
+
 -- a field, put back, is what its mask cuts out
 pub put-field : (w p n : ℕ) → n + p ≤ 64 → fieldOf w p n * 2 ^ p % 2 ^ 64 ≡ bitAnd w (2 ^ (n + p) - 2 ^ p)
 put-field w p n h = shl-exact n p 64 (mod-lt (w / 2 ^ p) (pow-pos n)) h ∙ sym (and-high w n p)

@@ -3,7 +3,6 @@ ghost use mathlib.Core.Path.{_≡_};
 ghost use Rattle.isa.specs.Decode.{decodedOf, decodeOf};
 
 use finding::matching;
-use finding::table;
 use isa::answer::Decoded;
 use isa::answer::Find;
 use isa::answer::Reading;
@@ -25,7 +24,7 @@ pub fn decode(code: &[u8]) -> Decoded
     let w = bits::word(code);
     match matching::find_first(w, finding::held(code.len())) {
         Find::At(place, n) => {
-            let r = reading::read(place, w & table::ones_of(n));
+            let r = reading::read(place, w & finding::ones_of(n));
             decoded(r, n)
         }
         Find::Refused(r) => Decoded::Refused(r),

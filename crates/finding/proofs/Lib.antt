@@ -1,5 +1,5 @@
-pub mod Forms
 pub mod First
+pub mod Forms
 pub mod Steps
-pub mod Agreed
+pub mod Candidates
 pub mod Found

@@ -8,17 +8,13 @@ use lib.Bits.{bitAnd, bitOr, and-comm, and-zero-r, or-zero-l, or-zero-r, and-hig
 use lib.Dec.{T, eqb, eqb→eq, leb→le}
 use lib.Pow.{shl-exact, shl-shr}
 use Rattle.bits.specs.Word.{fieldOf}
-use Rattle.bits.proofs.Masks.{and-assoc, and-or}
+use Rattle.bits.proofs.Masks.{and-assoc, or-and}
 use Rattle.bits.proofs.Table.{all, left, right}
 use Rattle.isa.specs.Diagram.{Diagram, Field, widthOf, spanMask, mask, fixedValue}
 use Rattle.isa.specs.Rows.{rows}
 use Rattle.encoding.specs.Write.{Named, numberIn, put, over, wordBy}
 use Rattle.roundtrip.specs.Reasons.{FieldsWithin}
 use Rattle.roundtrip.proofs.Words.{Agree, inWord}
-
--- what a mask cuts out of two numbers together
-pub or-and : (a b m : ℕ) → bitAnd (bitOr a b) m ≡ bitOr (bitAnd a m) (bitAnd b m)
-or-and a b m = and-comm (bitOr a b) m ∙ and-or m a b ∙ ap₂ bitOr (and-comm m a) (and-comm m b)
 
 -- the number of the field f
 abbrev pub partOf : Field → List Named → ℕ

@@ -13,7 +13,7 @@ use lib.Pow.{pow-pos}
 use borrow.Author.Tests.{eqb-true, eqb-false}
 use Rattle.bits.specs.Word.{le}
 use Rattle.bits.proofs.Laws.{Bytes, bytes-bytesOf, take-bytes, le-bytes, pow-bytes}
-use Rattle.bits.proofs.Masks.{and-assoc}
+use Rattle.bits.proofs.Masks.{and-assoc, or-and}
 use Rattle.bits.proofs.Table.{_&_, all-at}
 use Rattle.isa.specs.Diagram.{Field, widthOf, mask, fixedValue}
 use Rattle.isa.specs.Refusal.{numberOf, refusal}
@@ -34,7 +34,7 @@ use Rattle.answers.specs.Encoded.{answerBy}
 use Rattle.roundtrip.specs.Reasons.{Held, HoldsDst, HoldsMov, FieldsWithin, FieldsFit, KeptFits, NoAbsentBit, Finds, Encodable}
 use Rattle.roundtrip.proofs.Operands.{dst-back}
 use Rattle.roundtrip.proofs.Words.{Agree}
-use Rattle.roundtrip.proofs.Placing.{or-and, kept-off, separate, all-separate, clear, Settled, settled, has-kept, has-settled, has-clear}
+use Rattle.roundtrip.proofs.Placing.{kept-off, separate, all-separate, clear, Settled, settled, has-kept, has-settled, has-clear}
 use Rattle.roundtrip.proofs.Again.{Has, mov16-again, mov32-again, get-sr-again, iadd-again, imadd-again, bitfield-again, shift-layout-again, bitop-again, scan-again, jump-again, pop-exec-again, compare-again}
 use Rattle.roundtrip.proofs.Back.{told, word-lt, word-back}
 use Rattle.roundtrip.proofs.Round.{accepted-decodes, decoded-accepted}

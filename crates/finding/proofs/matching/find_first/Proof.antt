@@ -1,76 +1,100 @@
--- The invariant: what is first from form i on, with what was seen so far, is first of all.
-use mathlib.Core.Path.{_≡_, refl, sym, ap, ap₂, _∙_}
-use mathlib.Core.Bool.{Bool, false, cond}
+-- The invariant: what is first from row i on, with what was seen so far, is first of all.
+use mathlib.Core.Path.{_≡_, refl, sym, ap, _∙_}
+use mathlib.Core.Bool.{false}
 use mathlib.Core.Logic.{⊎-elim}
-use Prim.Native.Nat.{ℕ, _-_, _≤_, _<_}
+use Prim.Native.Nat.{ℕ, _%_, _-_, _≤_, _<_}
 use native.Mathlib.Omega.{arith}
-use lib.ListN.{drop, length}
-use Rattle.isa.specs.Refusal.{refusal}
-use Rattle.isa.specs.Find.{forms}
-use Rattle.isa.specs.declared.answer.Find.{Find}
-use Rattle.finding.specs.First.{firstOf}
-use Rattle.finding.proofs.Forms.{length-forms}
-use Rattle.finding.proofs.Steps.{hit, wait, pass, ends}
-use Rattle.finding.proofs.Agreed.{Tables, agrees-by}
-use Rattle.isa.specs.Rows.{rows}
+use lib.ListN.{drop, getD, length}
 use borrow.Author.Needs.{needs}
+use Rattle.bits.specs.Word.{ones}
+use Rattle.isa.specs.Rows.{rows}
+use Rattle.isa.specs.declared.answer.Find.{Find}
+use Rattle.rows.specs.Table.{table, noRow}
+use Rattle.rows.specs.declared.Row.{Row}
+use Rattle.finding.specs.First.{firstOf}
+use Rattle.finding.specs.Candidates.{endIn}
+use Rattle.finding.specs.declared.low.Candidates.{Candidates}
+use Rattle.finding.proofs.Steps.{hit, wait, pass, asked, measured}
+use Rattle.finding.proofs.Found.{refused-within}
+use Rattle.finding.proofs.Candidates.{length-table, none-lent, from-first, past-end, first-below, end-below, bytes-within, length-within}
 use Rattle.finding.proofs.matching.find_first.Statement.{statement}
 use Rattle.finding.proofs.matching.find_first.Tie as tie
 
 abbrev Inv-loop : tie.InvT-loop
-Inv-loop w n k masks values more₀ i₀ more i =
-    (i ≤ 24) × (firstOf (drop i forms) more w n ≡ firstOf forms false w n) × Tables masks values k n
+Inv-loop w n k end more₀ i₀ more i =
+    (i ≤ 22) × (firstOf (drop i table) i more w n ≡ firstOf table 0 false w n) × (k ≡ ones n) × (end ≡ endIn (w % 128) table)
+    × (end ≤ 22)
 
 abbrev μ-loop : tie.MeasureT-loop
-μ-loop w n k masks values more₀ i₀ more i = 24 - i
-
-ones-of-requires : tie.Need-ones-of-requires Inv-loop μ-loop
-ones-of-requires c κs = c .pre
-
-loop-holds : tie.Need-loop-holds Inv-loop μ-loop
-unfolding rows forms
-loop-holds c = (omega arith, refl, record { masks = refl; values = refl; lent = c .ones-of .ensures })
+μ-loop w n k end more₀ i₀ more i = 22 - i
 
 returns : tie.Need-returns Inv-loop μ-loop
-returns c =
+returns c = (sym (none-lent (c .before .args .w) (c .before .args .n) (c .if1 .taken) (c .before .pre .1)), tt)
+
+loop-holds : tie.Need-loop-holds Inv-loop μ-loop
+loop-holds c =
+    let w = c .before .before .before .args .w in
+    let e = c .rows-with .ensures in
+    let f = ap (λ (x : Candidates). x .first) e in
+    (rw f (first-below (w % 128)),
+      rw f (from-first w (c .before .before .before .args .n) (omega arith) (c .before .before .before .pre .0)),
+      c .before .ones-of .ensures,
+      ap (λ (x : Candidates). x .end) e,
+      rw (ap (λ (x : Candidates). x .end) e) (end-below (w % 128)))
+
+returns-2 : tie.Need-returns-2 Inv-loop μ-loop
+returns-2 c =
     let l = c .before .before .before .before .before .before in
-    let h : l .loop .i < length forms = rw length-forms (omega arith) in
-    let b = c .before .before .bytes-of .ensures in
-    (ap₂ (λ (p n : ℕ). Find.At p n) (c .place-of .ensures .0) (b .0)
-      ∙ sym
-        (hit forms _ h _ _ (l .loop .more) (agrees-by (l .loop .inv .2) (l .before .before .args .w) (l .loop .i) ∙ sym (c .before .before .before .before .agree .ensures) ∙ c .before .before .before .if1 .taken)
-          (omega (arith, b .0)))
-      ∙ l .loop .inv .1,
-      (c .place-of .ensures .1, b .1))
+    let i = l .loop .i in
+    let w = l .before .before .before .before .args .w in
+    let n = l .before .before .before .before .args .n in
+    let r = c .before .before .before .before .row-at .ensures in
+    let b : i < 22 = omega arith in
+    let h : i < length table = rw length-table b in
+    let m = measured _ (getD table i noRow) w _ r (c .before .length-by .ensures) in
+    (rw⁻¹ m (sym (hit table i h w n (l .loop .more) (asked _ _ _ n w _ r (l .loop .inv .2) (c .before .before .before .agree .ensures) ∙ c .before .before .if2 .taken) (rw m (c .if3 .taken)))) ∙ l .loop .inv .1,
+      (b, rw⁻¹ m (length-within (getD table i noRow) w (bytes-within i b .1))))
+
+length-by-requires : tie.Need-length-by-requires Inv-loop μ-loop
+length-by-requires c κs =
+    let l = c .before .before .before .before in
+    let b : l .loop .i < 22 = omega arith in
+    rw (c .before .before .row-at .ensures) (bytes-within (l .loop .i) b .0)
 
 loop-again : tie.Need-loop-again Inv-loop μ-loop
 loop-again c =
-    let l = c .before .before .before in
-    let h : l .loop .i < length forms = rw length-forms (omega arith) in
-    let e = agrees-by (l .loop .inv .2) (l .before .before .args .w) (l .loop .i) ∙ sym (c .before .agree .ensures) in
+    let l = c .before .before .before .before in
+    let i = l .loop .i in
+    let w = l .before .before .before .before .args .w in
+    let n = l .before .before .before .before .args .n in
+    let r = c .before .before .row-at .ensures in
+    let b : i < 22 = omega arith in
+    let h : i < length table = rw length-table b in
+    let a = asked _ (getD table i noRow) _ n w _ r (l .loop .inv .2) (c .before .agree .ensures) in
     (omega arith,
       ⊎-elim
-      (λ w. rw (w .3) (sym (wait forms _ h _ _ (l .loop .more) (e ∙ w .0 .taken) (omega (arith, w .1 .ensures .0, w .2 .left))) ∙ l .loop .inv .1))
-      (λ w. rw (w .1) (sym (pass forms _ h _ _ (l .loop .more) (e ∙ w .0 .left)) ∙ l .loop .inv .1))
-      (c .if1 .came),
-      l .loop .inv .2)
-
-ended : (c : tie.After-loop Inv-loop μ-loop) → cond (c .before .loop .more) (Find.Refused (refusal 2)) (Find.Refused (refusal 3))
-    ≡ firstOf forms false (c .before .before .before .args .w) (c .before .before .before .args .n)
-ended c =
-    let h : length forms ≤ c .before .loop .i = rw length-forms (c .loop-test .left) in
-    sym (ends forms _ _ _ (c .before .loop .more) h) ∙ c .before .loop .inv .1
-
-returns-2 : tie.Need-returns-2 Inv-loop μ-loop
-returns-2 c = (sym (ap (λ (b : Bool). cond b (Find.Refused (refusal 2)) (Find.Refused (refusal 3))) (c .if3 .taken)) ∙ ended (c .before), tt)
+      (λ t. rw (t .3) (sym (wait table i h w n (l .loop .more) (a ∙ t .0 .taken) (rw (measured _ (getD table i noRow) w _ r (t .1 .ensures)) (t .2 .left))) ∙ l .loop .inv .1))
+      (λ t. rw (t .1) (sym (pass table i h w n (l .loop .more) (a ∙ t .0 .left)) ∙ l .loop .inv .1))
+      (c .if2 .came),
+      l .loop .inv .2,
+      l .loop .inv .3,
+      l .loop .inv .4)
 
 returns-3 : tie.Need-returns-3 Inv-loop μ-loop
-returns-3 c = (sym (ap (λ (b : Bool). cond b (Find.Refused (refusal 2)) (Find.Refused (refusal 3))) (c .if3 .left)) ∙ ended (c .before), tt)
+returns-3 c =
+    let l = c .before .before in
+    let w = l .before .before .before .before .args .w in
+    let n = l .before .before .before .before .args .n in
+    let e = c .refused .ensures in
+    (e
+      ∙ sym (past-end w n (omega arith) (l .before .before .before .before .pre .0) (l .loop .i) (l .loop .more) (rw⁻¹ (l .loop .inv .3) (c .before .loop-test .left)) (l .loop .inv .0))
+      ∙ l .loop .inv .1,
+      refused-within (l .loop .more) _ e)
 
 pub find-first-spec : {M : Type 1} → statement M
 find-first-spec =
     tie.close
     (tie.spec
-    Inv-loop μ-loop ones-of-requires loop-holds (λ c. omega arith) (λ c. omega arith) (λ c. omega arith) (λ c. omega arith)
-    (λ c κs. search needs) (λ c κs. omega arith) (λ c κs. omega arith) returns (λ c. omega arith) (λ c. omega arith) loop-again
-    returns-2 returns-3)
+    Inv-loop μ-loop returns (λ c κs. search needs) (λ c κs. search needs) loop-holds
+    (λ c κs. omega arith) (λ c κs. search needs) length-by-requires returns-2 (λ c. omega arith) (λ c. omega arith) loop-again
+    (λ c κs. search needs) returns-3)
