@@ -8,15 +8,15 @@ use lib.Bits.{bitAnd, and-mask}
 use lib.ListN.{length, take}
 use Rattle.bits.specs.Word.{le, wordOf, ones}
 use Rattle.bits.proofs.Laws.{Bytes, first-bytes}
-use Rattle.isa.specs.Find.{forms}
 use Rattle.isa.specs.Decode.{readAt, decodedOf, readFound, decodeOf}
 use Rattle.isa.specs.declared.answer.Find.{Find}
 use Rattle.isa.specs.declared.answer.Reading.{Reading}
+use Rattle.rows.specs.Table.{table}
 use Rattle.finding.specs.First.{firstOf}
 use Rattle.finding.proofs.Found.{found}
 
 module _ (s : List ℕ) (hs : Bytes s) (w n : ℕ) (f : Find) (ew : w ≡ wordOf s) (en : n ≡ min 8 (length s))
-  (ef : f ≡ firstOf forms false w n) where
+  (ef : f ≡ firstOf table 0 false w n) where
 
   pub decoded : (g : Find) → f ≡ g → readFound g s ≡ decodeOf s
   unfolding decodeOf

@@ -1,9 +1,15 @@
 use mathlib.Core.Path.{_∙_}
-use Rattle.finding.proofs.Found.{within}
+use Rattle.finding.proofs.Found.{within, word-lent}
 use Rattle.decode.proofs.Decoding.{decoded, decoded-at}
+use native.Mathlib.Omega.{arith}
 use borrow.Author.Needs.{needs}
 use Rattle.decode.proofs.decode.Statement.{statement}
 use Rattle.decode.proofs.decode.Tie as tie
+
+find-first-requires : tie.Need-find-first-requires
+find-first-requires c κs =
+    (omega (arith, c .held .ensures),
+      word-lent (c .before .before .before .args .code .now) (λ j. c .before .before .shared-slice-known .given j .fits) _ _ (c .before .word .ensures) (c .held .ensures))
 
 ones-of-requires : tie.Need-ones-of-requires
 ones-of-requires c κs = within _ _ _ (c .before .before .before .find-first .ensures .1) (c .before .place .given .1) .1
@@ -28,5 +34,5 @@ pub decode-spec : {M : Type 1} → statement M
 decode-spec =
     tie.close
     (tie.spec
-    (λ c κs. search needs) (λ c κs. search needs) (λ c κs. search needs) (λ c. search needs) ones-of-requires read-requires
+    (λ c κs. search needs) (λ c κs. search needs) find-first-requires (λ c. search needs) ones-of-requires read-requires
     (λ c κs. search needs) (λ c. search needs) returns returns-2)
