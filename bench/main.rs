@@ -1,7 +1,9 @@
-//! Times runs of the benchmark kernels, by the plain Rust program and by the proved program, and compares everything that the two
-//! leave. It also times calls of the proved program that make no step: what it costs that words cross as bytes.
+//! Times decoding, and runs of the benchmark kernels, by the plain Rust program and by the proved program, and compares everything
+//! that the two leave. It also times calls of the proved program that make no step: what it costs that words cross as bytes.
 
 mod assemble;
+mod decoding;
+mod drawn;
 #[allow(dead_code)]
 mod exported;
 mod kernels;
@@ -21,6 +23,17 @@ const CALLS: usize = 100;
 const FEW: usize = 8;
 
 fn main() {
+    let decoded = decoding::time_all();
+    println!();
+    let ran = time_runs();
+    if !(decoded && ran) {
+        println!("the two programs differ");
+        std::process::exit(1);
+    }
+}
+
+/// Times the runs of each kernel and prints them; false if the two programs leave something different.
+fn time_runs() -> bool {
     let (large, small) = (no_step(REGISTERS, SPECIALS), no_step(FEW, 0));
     println!("steps per second, median of {ROUNDS} runs of {BUDGET} steps");
     println!("ratio = time of plain Rust / time of the proved program: 1.00 as fast as plain Rust, above 1 faster");
@@ -34,10 +47,7 @@ fn main() {
         "kernel", "plain ns/step", "ratio", "large", "small"
     );
     let same: Vec<bool> = kernels::all().iter().map(|kernel| time(kernel, large, small)).collect();
-    if same.contains(&false) {
-        println!("the two programs differ");
-        std::process::exit(1);
-    }
+    !same.contains(&false)
 }
 
 /// The time of a call on empty code, which is finished at once, in seconds.
