@@ -15,12 +15,41 @@ use Rattle.isa.specs.declared.answer.Refusal.{Refusal}
 use Rattle.isa.specs.declared.answer.Decoded.{Decoded}
 use Rattle.isa.specs.declared.instruction.Instruction.{Instruction}
 use Rattle.isa.proofs.Found.{found-length}
-use Rattle.form.specs.Form.{formOf, spelledOf}
+use Rattle.bits.proofs.Laws.{Bytes}
+use Rattle.isa.specs.Parts.{partsOf}
+use Rattle.isa.specs.declared.parts.Parts.{Parts}
+use Rattle.form.specs.Form.{layOut, formOf, spelledOf}
 use Rattle.form.specs.declared.Spelled.{Spelled}
-use Rattle.form.proofs.Form.{form-length}
+use Rattle.form.proofs.Form.{form-length, form-spelled}
+use Rattle.form.proofs.Decoded.{decoded-fits}
+use Rattle.decodeparts.specs.Parts.{partsDecoded}
+use Rattle.decodeparts.specs.declared.DecodedParts.{DecodedParts}
 use Rattle.bits.proofs.Pieces.{put-first}
 use Rattle.answers.specs.Returned.{refusedBy}
 use Rattle.decodeat.specs.DecodeAt.{formLength, withRoom, decodedAt, DecodesAt}
+
+-- ---- what was decoded, by its parts
+
+pub was-refused : (d : Decoded) (x : DecodedParts) (r : Refusal) → x ≡ partsDecoded d → x ≡ DecodedParts.Refused r → d ≡ Decoded.Refused r
+was-refused (Decoded.Found i n) x r e f = let z : _≡_ {A = ℕ} 0 1 = cc in absurd (omega arith)
+was-refused (Decoded.Refused q) x r e f = let z : q ≡ r = cc in ap Decoded.Refused z
+
+pub was-found : (d : Decoded) (x : DecodedParts) (p : Parts) (n : ℕ) → x ≡ partsDecoded d → x ≡ DecodedParts.Found p n
+    → (i : Instruction) × (d ≡ Decoded.Found i n) × (p ≡ partsOf i)
+was-found (Decoded.Found i m) x p n e f =
+    let z : m ≡ n = cc in
+    let q : p ≡ partsOf i = cc in
+    (i, ap (Decoded.Found i) z, q)
+was-found (Decoded.Refused r) x p n e f = let z : _≡_ {A = ℕ} 0 1 = cc in absurd (omega arith)
+
+-- the byte form of its parts
+pub form-of : (s : List ℕ) → Bytes s → (i : Instruction) (n : ℕ) → decodeOf s ≡ Decoded.Found i n → (p : Parts) → p ≡ partsOf i
+    → (form : List ℕ) → form ≡ layOut p → (form ≡ formOf i) × (spelledOf form ≡ Spelled.Is i)
+form-of s hs i n d p q form f =
+    let e : form ≡ formOf i = f ∙ ap layOut q in
+    (e, ap spelledOf e ∙ form-spelled i (decoded-fits s hs i n d))
+
+-- ---- the ways through
 
 -- the part of the code that is decoded is all from the offset on
 module _ (code : List ℕ) (offset : ℕ) (h : offset ≤ length code) (d : Decoded)

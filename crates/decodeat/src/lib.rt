@@ -3,7 +3,8 @@ ghost use Rattle.decodeat.specs.DecodeAt.{DecodesAt};
 
 use answers::returned;
 use bits::piece;
-use isa::answer::Decoded;
+use decodeparts::DecodedParts;
+use decodeparts::decode_parts;
 use isa::answer::Refusal;
 
 // The instruction at a byte of the code, in its byte form, and its length; below 0, minus a refusal's number. Refused, nothing is written;
@@ -14,15 +15,15 @@ pub fn decode_at(code: &[u8], offset: usize, instruction: &mut [u8]) -> i32
     if code.len() < offset {
         return returned::refused(Refusal::BadSize);
     }
-    match decode::decode(&code[offset..]) {
-        Decoded::Found(i, n) => {
+    match decode_parts(&code[offset..]) {
+        DecodedParts::Found(p, n) => {
             if instruction.len() < 48 {
                 return returned::refused(Refusal::BadSize);
             }
-            let form = form::to_bytes(i);
+            let form = form::of_parts(p);
             piece::put(instruction, 0, &form);
             returned::count(n)
         }
-        Decoded::Refused(r) => returned::refused(r),
+        DecodedParts::Refused(r) => returned::refused(r),
     }
 }

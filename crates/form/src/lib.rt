@@ -1,10 +1,11 @@
 // The byte form of an instruction: 48 bytes for callers in other languages. docs/byte-form.md has the layout.
 ghost use mathlib.Core.Path.{_≡_};
-ghost use Rattle.form.specs.Form.{formOf, spelledOf};
+ghost use Rattle.form.specs.Form.{layOut, formOf, spelledOf};
 
 use bits::equal;
 use formread::instruction_from;
 use isa::instruction::Instruction;
+use isa::parts::Parts;
 use layout::lay_out;
 use lengths::length_of;
 use parts::parts_of;
@@ -19,7 +20,13 @@ pub enum Spelled {
 pub fn to_bytes(i: Instruction) -> [u8; 48]
     ensures { λ r. ⌜ (r ≡ formOf i) × (spelledOf r ≡ Spelled.Is i) ⌝ }
 {
-    let p = parts_of(i);
+    of_parts(parts_of(i))
+}
+
+// The byte form of the instruction that has these parts.
+pub fn of_parts(p: Parts) -> [u8; 48]
+    ensures { λ r. ⌜ r ≡ layOut p ⌝ }
+{
     let n = length_of(p);
     lay_out(p, n as u8)
 }

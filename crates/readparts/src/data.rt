@@ -9,9 +9,7 @@ ghost use Rattle.readdata.specs.Make.{bitfieldAt, shiftAt, scanAt};
 ghost use Rattle.readparts.specs.Parts.{partsRead, BitfieldKind, ShiftKind, ScanKind};
 
 use crate::ReadParts;
-use isa::instruction::Bitfield;
 use isa::instruction::Scan;
-use isa::instruction::Shift;
 use isa::operand::ReadBinary;
 use isa::operand::ReadTernary;
 use isa::operand::ReadUnary;
@@ -20,9 +18,7 @@ use isa::parts::Truth;
 use numbers::build::no_signs;
 use numbers::build::no_truth;
 use numbers::build::of_binary;
-use numbers::build::of_bitfield;
 use numbers::build::of_scan;
-use numbers::build::of_shift;
 use numbers::build::of_ternary;
 use operands::read_binary;
 use operands::read_ternary;
@@ -71,12 +67,8 @@ pub fn bitfield(kind: u8, w: u64) -> ReadParts
     let ReadTernary::Is(o) = read_ternary(false, w) else {
         return ReadParts::NoMeaning;
     };
-    let x = Bitfield {
-        operands: o,
-        m: ((w >> 63) % 2 * 16 + ((w >> 50) % 4 * 4 + (w >> 38) % 4)) as u8,
-        kept: w & 0x4030000000000000,
-    };
-    let p = of_bitfield(kind, x);
+    let m = ((w >> 63) % 2 * 16 + ((w >> 50) % 4 * 4 + (w >> 38) % 4)) as u8;
+    let p = of_ternary(kind, o, m, no_signs(), w & 0x4030000000000000);
     ReadParts::Are(p)
 }
 
@@ -87,11 +79,7 @@ pub fn shift(kind: u8, w: u64) -> ReadParts
     let ReadBinary::Is(o) = read_binary(false, false, w, 60) else {
         return ReadParts::NoMeaning;
     };
-    let x = Shift {
-        operands: o,
-        kept: w & 0xc0ffffc000000000,
-    };
-    let p = of_shift(kind, x);
+    let p = of_binary(kind, o, no_signs(), no_truth(), w & 0xc0ffffc000000000);
     ReadParts::Are(p)
 }
 

@@ -12,10 +12,11 @@ returns-2 : tie.Need-returns-2
 unfolding rows withBinary
 returns-2 c =
     rw
-    (c .of-shift .ensures, ← c .before .before .before .before .read-binary .ensures, c .before .before .o .given .1, c .before .before .before .before .before .pre)
+    (c .of-binary .ensures, c .before .no-truth .ensures, c .before .before .no-signs .ensures, ← c .before .before .before .before .before .before .read-binary .ensures, c .before .before .before .before .o .given .1, c .before .before .before .before .before .before .before .pre)
 
 pub shift-spec : {M : Type 1} → statement M
 shift-spec =
     tie.close
     (tie.spec
-    (λ c κs. search needs) (λ c. search needs) (λ c. search needs) returns (λ c κs. search needs) returns-2)
+    (λ c κs. search needs) (λ c. search needs) (λ c. search needs) returns (λ c κs. search needs) (λ c κs. search needs)
+    (λ c κs. search needs) returns-2)
