@@ -1,6 +1,8 @@
 // The rows of document 002's bit diagrams, one table in document order: what finding and encoding read of each.
 ghost use mathlib.Core.Path.{_≡_};
 ghost use Prim.Native.Nat.{_<_};
+ghost use Rattle.isa.specs.Decode.{rowAt};
+ghost use Rattle.isa.specs.Diagram.{fixedValue};
 ghost use Rattle.rows.specs.Table.{table, noRow};
 ghost use lib.ListN.{getD};
 
@@ -207,4 +209,12 @@ pub fn row_at(place: usize) -> Row
             value: 0b00_00_00_00_00_0000_000000_00_0000_000000_000_00_01_0_0_1010010,
         },
     }
+}
+
+// The values of the fixed bits of the row at a place, which the encoder writes.
+pub fn value_at(place: usize) -> u64
+    requires { ⌜ place < 22 ⌝ }
+    ensures { λ r. ⌜ r ≡ fixedValue (rowAt place .fixeds) ⌝ }
+{
+    row_at(place).value
 }

@@ -1,6 +1,9 @@
-// The words of the other data instructions: sums, bitfields, shifts, bitop and scans. One function for each layout. Kept bits, fixed bits, and each field at its bits, in
-// the order of the diagram.
+// The words of the other data instructions: sums, bitfields, shifts, bitop and scans. Kept bits, the fixed bits of the table, and each
+// field at its bits, in the order of the diagram. One function for each layout: where diagrams share it, the place says which.
 ghost use mathlib.Core.Path.{_≡_};
+ghost use Prim.Native.Nat.{_<_};
+ghost use Rattle.isa.specs.Decode.{rowAt};
+ghost use Rattle.isa.specs.Diagram.{fixedValue};
 ghost use Rattle.encoding.specs.Layout.{bitfieldWord, shiftWord, scanWord};
 ghost use Rattle.encoding.specs.Write.{wordFor};
 
@@ -12,6 +15,7 @@ use isa::instruction::Scan;
 use isa::instruction::Shift;
 use isa::operand::Binary;
 use isa::operand::Ternary;
+use rows::value_at;
 
 pub fn word_iadd(o: Binary, s: u8, n: u8, sa: u8, sb: u8, shift: u8, kept: u64) -> u64
     ensures { λ r. ⌜ r ≡ wordFor (Instruction.Iadd o s n sa sb shift kept) ⌝ }
@@ -21,7 +25,7 @@ pub fn word_iadd(o: Binary, s: u8, n: u8, sa: u8, sb: u8, shift: u8, kept: u64) 
     let b = of_src(o.b);
     let shift = shift as u64;
     kept
-        | 0xe
+        | value_at(3)
         | (s as u64) << 6
         | d.t << 7
         | d.v % 64 << 9
@@ -48,7 +52,7 @@ pub fn word_imadd(o: Ternary, s: u8, n: u8, sa: u8, sb: u8, sc: u8, shift: u8, k
     let c = of_src(o.c);
     let shift = shift as u64;
     kept
-        | 0x1e
+        | value_at(4)
         | (s as u64) << 6
         | d.t << 7
         | d.v % 64 << 9
@@ -70,8 +74,9 @@ pub fn word_imadd(o: Ternary, s: u8, n: u8, sa: u8, sb: u8, sc: u8, shift: u8, k
         | d.v / 64 << 60
 }
 
-pub fn word_bitfield(fixed: u64, x: Bitfield) -> u64
-    ensures { λ r. ⌜ r ≡ bitfieldWord fixed x ⌝ }
+pub fn word_bitfield(place: usize, x: Bitfield) -> u64
+    requires { ⌜ place < 22 ⌝ }
+    ensures { λ r. ⌜ r ≡ bitfieldWord (fixedValue (rowAt place .fixeds)) x ⌝ }
 {
     let o = x.operands;
     let d = of_dst(o.d);
@@ -80,7 +85,7 @@ pub fn word_bitfield(fixed: u64, x: Bitfield) -> u64
     let c = of_src(o.c);
     let m = x.m as u64;
     x.kept
-        | fixed
+        | value_at(place)
         | d.t << 7
         | d.v % 64 << 9
         | a.v % 64 << 16
@@ -98,15 +103,16 @@ pub fn word_bitfield(fixed: u64, x: Bitfield) -> u64
         | m / 16 << 63
 }
 
-pub fn word_shift(fixed: u64, x: Shift) -> u64
-    ensures { λ r. ⌜ r ≡ shiftWord fixed x ⌝ }
+pub fn word_shift(place: usize, x: Shift) -> u64
+    requires { ⌜ place < 22 ⌝ }
+    ensures { λ r. ⌜ r ≡ shiftWord (fixedValue (rowAt place .fixeds)) x ⌝ }
 {
     let o = x.operands;
     let d = of_dst(o.d);
     let a = of_src(o.a);
     let b = of_src(o.b);
     x.kept
-        | fixed
+        | value_at(place)
         | d.t << 7
         | d.v % 64 << 9
         | a.v % 64 << 16
@@ -125,7 +131,7 @@ pub fn word_bitop(o: Binary, tt0: u8, tt1: u8, tt2: u8, tt3: u8, kept: u64) -> u
     let a = of_src(o.a);
     let b = of_src(o.b);
     kept
-        | 0x7e
+        | value_at(12)
         | d.t << 7
         | d.v % 64 << 9
         | a.v % 64 << 16
@@ -141,14 +147,15 @@ pub fn word_bitop(o: Binary, tt0: u8, tt1: u8, tt2: u8, tt3: u8, kept: u64) -> u
         | d.v / 64 << 44
 }
 
-pub fn word_scan(fixed: u64, x: Scan) -> u64
-    ensures { λ r. ⌜ r ≡ scanWord fixed x ⌝ }
+pub fn word_scan(place: usize, x: Scan) -> u64
+    requires { ⌜ place < 22 ⌝ }
+    ensures { λ r. ⌜ r ≡ scanWord (fixedValue (rowAt place .fixeds)) x ⌝ }
 {
     let o = x.operands;
     let d = of_dst(o.d);
     let a = of_src(o.a);
     x.kept
-        | fixed
+        | value_at(place)
         | d.t << 7
         | d.v % 64 << 9
         | a.v % 64 << 16

@@ -12,12 +12,12 @@ returns : tie.Need-returns
 unfolding rows
 returns c =
     let q = c .before .before .before .before .before .before .before in
-    let args = q .before .before .before .args in
+    let args = q .before .before .before .before .args in
     λ i.
-    over (bitOr (args .x .kept) (args .fixed)) (rowAt 13 .fields)
-    (asD (q .before .of-dst .ensures i)
-    (asA (q .of-src .ensures i)
+    over (bitOr (args .x .kept) (q .value-at .ensures i)) (rowAt 13 .fields)
+    (asD (q .before .before .of-dst .ensures i)
+    (asA (q .before .of-src .ensures i)
     (ofUnary (args .x .operands) [])))
 
 pub word-scan-spec : {M : Type 1} → statement M
-word-scan-spec = tie.close (tie.spec (λ c κs. search needs) (λ c κs. search needs) returns)
+word-scan-spec = tie.close (tie.spec (λ c κs. search needs) (λ c κs. search needs) (λ c κs. search needs) returns)

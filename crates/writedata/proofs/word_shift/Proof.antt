@@ -12,13 +12,16 @@ returns : tie.Need-returns
 unfolding rows
 returns c =
     let q = c .before .before .before .before .before .before .before .before .before .before in
-    let args = q .before .before .before .before .args in
+    let args = q .before .before .before .before .before .args in
     λ i.
-    over (bitOr (args .x .kept) (args .fixed)) (rowAt 10 .fields)
-    (asD (q .before .before .of-dst .ensures i)
-    (asA (q .before .of-src .ensures i)
-    (asB (q .of-src2 .ensures i)
+    over (bitOr (args .x .kept) (q .value-at .ensures i)) (rowAt 10 .fields)
+    (asD (q .before .before .before .of-dst .ensures i)
+    (asA (q .before .before .of-src .ensures i)
+    (asB (q .before .of-src2 .ensures i)
     (ofBinary (args .x .operands) []))))
 
 pub word-shift-spec : {M : Type 1} → statement M
-word-shift-spec = tie.close (tie.spec (λ c κs. search needs) (λ c κs. search needs) (λ c κs. search needs) returns)
+word-shift-spec =
+    tie.close
+    (tie.spec
+    (λ c κs. search needs) (λ c κs. search needs) (λ c κs. search needs) (λ c κs. search needs) returns)
