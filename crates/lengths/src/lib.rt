@@ -1,22 +1,33 @@
 // The length of an instruction's encoding.
 ghost use mathlib.Core.Path.{_≡_};
-ghost use Prim.Native.Nat.{_<_};
+ghost use Prim.Native.Nat.{_-_, _<_};
 ghost use Rattle.isa.specs.Parts.{lengthFor};
 
 use isa::parts::Parts;
+use rows::bit_l_at;
+use rows::bytes_at;
 
-// The number of bytes of the encoding. The two movs are two bytes shorter where L is 0; no diagram has a kind above 22.
+// The place in the list of the diagram of a kind: kinds begin with 1.
+fn place_of(kind: u8) -> usize
+    ensures { λ r. ⌜ r ≡ kind - 1 ⌝ }
+{
+    if kind == 0 { 0 } else { (kind as usize) - 1 }
+}
+
+// The number of bytes of the encoding, by the row of its kind: two less where it has a bit L that is 0; no diagram has a kind above 22.
 pub fn length_of(p: Parts) -> usize
     ensures { λ r. ⌜ (r ≡ lengthFor p) × (r < 9) ⌝ }
 {
-    let short = p.l == 0;
-    let kind = p.kind;
-    match kind {
-        0 | 1 => if short { 4 } else { 6 },
-        2 => if short { 6 } else { 8 },
-        3 => 4,
-        4..=12 => 8,
-        13..=22 => 6,
-        _ => 0,
+    let place = place_of(p.kind);
+    if 22 <= place {
+        return 0;
+    }
+    let n = bytes_at(place);
+    if bit_l_at(place) == 0 {
+        n
+    } else if p.l == 0 {
+        n - 2 // the short form
+    } else {
+        n // the long form
     }
 }
