@@ -4,3 +4,4 @@ pub mod Examples
 pub mod Typed
 pub mod Back
 pub mod Spelling
+pub mod Decoded

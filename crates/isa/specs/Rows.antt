@@ -1,5 +1,5 @@
--- The built diagrams, one list in the order of document 002, each strip with the cells that the document prints, from the top bit to
--- bit 0. "Dt" of the movs is the field that it prints below bits 8 and 7, and bit 8, which it shares, is fixed too.
+-- The built diagrams, one list in the order of document 002, each as the document prints it, from the top bit to bit 0; fixed bits side by
+-- side are one cell. "Dt" of the movs is the field that it prints below bits 8 and 7, and bit 8, which it shares, is fixed too.
 use mathlib.Core.List.{List, [], _∷_}
 use Rattle.isa.specs.Strip.{fixed, _of_, unknown, _above_, _·_}
 use Rattle.isa.specs.Diagram.{Diagram, diagram}

@@ -1,5 +1,7 @@
 use borrow.Author.Needs.{needs}
 use mathlib.Core.Path.{refl, _∙_}
+use Prim.Native.Nat.{_-_}
+use lib.ListN.{length, drop}
 use Rattle.bits.proofs.Laws.{bytes-take, bytes-drop}
 use Rattle.answers.proofs.Numbers.{handed-on}
 use Rattle.decodeat.proofs.Decoding.{was-refused, was-found, form-of, past-the-code, no-room, small, found, refused}
@@ -34,7 +36,7 @@ returns-3 c =
     let s = m .before .before .before .before .before .before in
     let a = s .before .args in
     let w = was-found _ _ _ _ (m .before .before .decode-parts .ensures) (m .p .given .1) in
-    let b = bytes-take _ _ (bytes-drop (a .offset) (a .code .now) (λ j. s .shared-slice-known .given j .fits)) in
+    let b = bytes-take (length (a .code .now) - a .offset) (drop (a .offset) (a .code .now)) (bytes-drop (a .offset) (a .code .now) (λ j. s .shared-slice-known .given j .fits)) in
     found (a .code .now) (a .offset) (a .instruction .now) _ (m .before .before .before .before .if1 .left) _ refl
     (w .0) _ (w .1) (f .before .if2 .left) (handed-on (c .count .result) (c .count .ok) ∙ c .count .ensures) _ _
     (form-of _ b (w .0) _ (w .1) _ (w .2) _ (f .of-parts .ensures)) (c .before .before .before .put .ensures)
