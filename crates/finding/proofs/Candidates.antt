@@ -2,16 +2,16 @@
 use mathlib.Core.Path.{_≡_, refl, sym, ap, ap₂, _∙_, subst}
 use mathlib.Core.Bool.{Bool, true, false, cond, _&&_}
 use mathlib.Core.List.{List, [], _∷_}
-use Prim.Native.Nat.{ℕ, zero, suc, _+_, _*_, _-_, _%_, _^_, _≤_, zero-le, suc-le-suc, _<_}
+use Prim.Native.Nat.{ℕ, zero, suc, _*_, _-_, _%_, _^_, _≤_, zero-le, suc-le-suc, _<_}
 use native.Mathlib.Nat.{zero-add, mod-lt, mod-eq-of-lt, le-of-suc-le-suc, not-suc-le-zero}
 use native.Mathlib.Omega.{arith}
 use lib.Bits.{bitAnd, and-comm, and-mod, and-mask}
 use lib.Dec.{T, eqb, ltb, ltb→lt}
-use lib.ListN.{drop, getD, length, length-map}
+use lib.ListN.{drop, getD, length}
 use borrow.Author.Tests.{eqb-true, eqb-false, ne-eqb}
 use Rattle.bits.specs.Word.{ones}
 use Rattle.bits.proofs.Masks.{and-within}
-use Rattle.bits.proofs.Table.{upto, agree, all, all-at, left, right}
+use Rattle.bits.proofs.Table.{agree, all, all-at, left, right}
 use Rattle.isa.specs.Rows.{rows}
 use Rattle.isa.specs.Refusal.{refusal}
 use Rattle.isa.specs.declared.answer.Find.{Find}

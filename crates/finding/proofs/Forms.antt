@@ -4,21 +4,20 @@ use mathlib.Core.Bool.{Bool, true, false, cond, _&&_, _||_, or-true, or-false, a
 use mathlib.Core.List.{List, [], _∷_, _++_, map}
 use Prim.Native.Nat.{ℕ, suc, _*_, _-_, _/_, _%_, _^_, _<_}
 use native.Mathlib.Omega.{arith}
-use native.Mathlib.Nat.{mod-lt}
 use lib.Bits.{bitAnd, bitOr, and-comm, and-self, and-zero-l, and-zero-r, or-zero-l, or-zero-r, and-high}
 use lib.Dec.{T, eqb, leb, eqb→eq}
-use borrow.Author.Tests.{eq-eqb, ne-eqb, eqb-true, eqb-false, leb-true, leb-false, lt-leb}
+use borrow.Author.Tests.{eq-eqb, ne-eqb, eqb-true, eqb-false, leb-false, lt-leb}
 use Rattle.bits.specs.Word.{ones}
 use Rattle.bits.proofs.Masks.{and-swap, and-assoc, and-or, or-and}
 use Rattle.bits.proofs.Table.{all, left, right}
-use Rattle.isa.specs.Diagram.{Diagram, fieldMask, fixedMask, fixedValue}
+use Rattle.isa.specs.Diagram.{Diagram}
 use Rattle.isa.specs.Rows.{rows}
 use Rattle.isa.specs.Find.{Form, diagramForm, formsAt, formsFrom, forms, absent}
 use Rattle.isa.specs.declared.answer.Find.{Find}
 use Rattle.rows.specs.Table.{rowOf, table}
 use Rattle.rows.specs.declared.Row.{Row}
 use Rattle.finding.specs.First.{agrees, lengthBy, firstOf}
-use Rattle.finding.proofs.First.{formAgrees, firstForm}
+use Rattle.finding.proofs.First.{firstForm}
 
 -- ---- masks: a word of which n bytes are lent; fixed bits f with values v; and a bit l that is not fixed
 
@@ -212,6 +211,6 @@ module _ (w n : ℕ) (hw : bitAnd w (ones n) ≡ w) where
         (rows-once ds (right (known (rowOf d)) _ t) (suc i) true) (rows-once ds (right (known (rowOf d)) _ t) (suc i) more)
       ∙ sym (row-once d (left (known (rowOf d)) _ t) i more (formsFrom (suc i) ds))
 
-  pub row-is-form : firstOf table 0 false w n ≡ firstForm forms false w n
+  pub first-row-is-first-form : firstOf table 0 false w n ≡ firstForm forms false w n
   unfolding table forms
-  row-is-form = rows-once rows all-known 0 false
+  first-row-is-first-form = rows-once rows all-known 0 false

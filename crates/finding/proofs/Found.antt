@@ -4,9 +4,8 @@ use mathlib.Core.Bool.{Bool, true, false, cond}
 use mathlib.Core.List.{List}
 use Prim.Native.Nat.{ℕ, _*_, _^_, _≤_, _<_, min}
 use native.Mathlib.Omega.{arith}
-use lib.Bits.{bitAnd}
 use lib.ListN.{length, take, length-take}
-use Rattle.bits.specs.Word.{wordOf, ones}
+use Rattle.bits.specs.Word.{wordOf}
 use Rattle.bits.proofs.Laws.{Bytes, bytes-take, le-lt, pow-bytes}
 use Rattle.bits.proofs.Masks.{and-all}
 use Rattle.isa.specs.Refusal.{refusal}
@@ -15,7 +14,7 @@ use Rattle.isa.specs.declared.answer.Find.{Find}
 use Rattle.rows.specs.Table.{table}
 use Rattle.finding.specs.First.{firstOf, FoundWithin}
 use Rattle.finding.proofs.First.{form-is-found}
-use Rattle.finding.proofs.Forms.{row-is-form}
+use Rattle.finding.proofs.Forms.{first-row-is-first-form}
 
 pub within : (f : Find) (p n : ℕ) → FoundWithin f → f ≡ Find.At p n → (p < 22) × (n < 9)
 within f p n h e = subst FoundWithin e h
@@ -32,7 +31,7 @@ word-lent s hs w n ew en =
 
 pub first-is-found : (s : List ℕ) → Bytes s → firstOf table 0 false (wordOf s) (min 8 (length s)) ≡ findOf s
 first-is-found s hs =
-    row-is-form (wordOf s) (min 8 (length s)) (and-all (wordOf s) (8 * min 8 (length s)) (word-lent s hs _ _ refl refl)) ∙ form-is-found s hs
+    first-row-is-first-form (wordOf s) (min 8 (length s)) (and-all (wordOf s) (8 * min 8 (length s)) (word-lent s hs _ _ refl refl)) ∙ form-is-found s hs
 
 pub found : (s : List ℕ) → Bytes s → (w n : ℕ) (f : Find) → w ≡ wordOf s → n ≡ min 8 (length s) → f ≡ firstOf table 0 false w n → f ≡ findOf s
 found s hs w n f ew en ef = ef ∙ ap₂ (λ (x y : ℕ). firstOf table 0 false x y) ew en ∙ first-is-found s hs

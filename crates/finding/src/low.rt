@@ -28,6 +28,7 @@ pub fn rows_with(low: u64) -> Candidates
         0b0000000 => Candidates { first: 16, end: 17 },
         0b0100000 => Candidates { first: 17, end: 18 },
         0b1010010 => Candidates { first: 18, end: 22 },
+        // none: past the last, and before the first
         _ => Candidates { first: 22, end: 0 },
     }
 }

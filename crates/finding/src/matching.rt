@@ -2,7 +2,6 @@
 ghost use mathlib.Core.Path.{_≡_};
 ghost use mathlib.Core.Bool.{false, cond};
 ghost use Prim.Native.Nat.{_<_, _*_, _^_};
-ghost use Rattle.bits.specs.Word.{ones};
 ghost use Rattle.isa.specs.Refusal.{refusal};
 ghost use Rattle.rows.specs.Table.{table};
 ghost use Rattle.finding.specs.First.{agreesWith, lengthBy, firstOf, FoundWithin};

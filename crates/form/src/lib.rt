@@ -23,7 +23,7 @@ pub fn to_bytes(i: Instruction) -> [u8; 48]
     of_parts(parts_of(i))
 }
 
-// The byte form of the instruction that has these parts.
+// The 48 bytes of these parts.
 pub fn of_parts(p: Parts) -> [u8; 48]
     ensures { λ r. ⌜ r ≡ layOut p ⌝ }
 {

@@ -1,7 +1,9 @@
--- Every bit of a diagram is accounted for: it is fixed, or stands in one field, or is printed "?", and only one of these.
+-- Every bit of a diagram is accounted for: it is fixed, or stands in one field, or is printed "?", and only one of these. The widths of its
+-- strip add up to its length.
 -- The movs are read as the statement of what to build reads them: bit 8 is fixed and is the upper bit of Dt, bit 7 is Dt's.
 use Prim.Native.Nat.{ℕ, zero, suc, _+_, _*_}
 use Prim.Native.Char.{code}
+use mathlib.Core.Path.{_≡_, refl}
 use mathlib.Core.Bool.{Bool, true, _&&_, _||_, cond}
 use mathlib.Core.List.{List, [], _∷_, _++_, map}
 use lib.Dec.{T, eqb, leb, ltb}
@@ -10,7 +12,7 @@ use lib.Text.{eqt}
 use Rattle.bits.proofs.Table.{all}
 use Rattle.isa.specs.Text.{ascii}
 use Rattle.isa.specs.Strip.{stripWidth}
-use Rattle.isa.specs.Diagram.{Diagram, Span, Fixed, Field, widthOf, spansOf}
+use Rattle.isa.specs.Diagram.{Diagram, Span, Fixed, Field, fixedsOf, fieldsOf, unknownsOf, widthOf, spansOf}
 use Rattle.isa.specs.Rows.{rows}
 
 -- the spans of a diagram: of its fixed bits, its fields and its "?" bits
@@ -50,6 +52,8 @@ pub all-covered : T (all covered rows)
 unfolding rows
 all-covered = tt
 
+-- ---- strips
+
 -- the widths of the cells add up to the length
 abbrev pub addsUp : Diagram → Bool
 addsUp d = eqb (stripWidth (d .strip)) (8 * d .bytes)
@@ -57,3 +61,19 @@ addsUp d = eqb (stripWidth (d .strip)) (8 * d .bytes)
 pub all-add-up : T (all addsUp rows)
 unfolding rows
 all-add-up = tt
+
+-- the three lists of a row are those of its strip
+pub record Lists : Type 0 where
+  pub fixeds : List Fixed
+  pub fields : List Field
+  pub unknowns : List Span
+
+abbrev listsIn : Diagram → Lists
+listsIn d = record { fixeds = d .fixeds; fields = d .fields; unknowns = d .unknowns }
+
+abbrev listsOfStrip : Diagram → Lists
+listsOfStrip d = record { fixeds = fixedsOf 0 (d .strip); fields = fieldsOf 0 (d .strip); unknowns = unknownsOf 0 (d .strip) }
+
+pub lists-of-strips : map listsIn rows ≡ map listsOfStrip rows
+unfolding rows
+lists-of-strips = refl

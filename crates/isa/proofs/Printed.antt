@@ -13,11 +13,11 @@ use Rattle.isa.specs.Rows.{rows}
 use Rattle.isa.specs.Find.{Form, formsAt}
 
 -- fixed bits and a field, by their bit numbers
-abbrev pub fixed : ℕ → ℕ → String → Fixed
-fixed hi lo digits = record { at = record { hi = hi; lo = lo }; digits = digits }
+abbrev pub fixedAt : ℕ → ℕ → String → Fixed
+fixedAt hi lo digits = record { at = record { hi = hi; lo = lo }; digits = digits }
 
-abbrev pub field : String → ℕ → ℕ → Field
-field name hi lo = record { name = name; at = record { hi = hi; lo = lo } }
+abbrev pub fieldAt : String → ℕ → ℕ → Field
+fieldAt name hi lo = record { name = name; at = record { hi = hi; lo = lo } }
 
 -- a diagram as printed: the heading word, the lengths it can have, its fixed bits and its fields
 pub record Printed : Type 0 where
@@ -32,25 +32,25 @@ printed h ls fx fs = record { heading = h; lengths = ls; fixeds = fx; fields = f
 -- of asr and asrh, which share a line of the table
 abbrev asrFields : List Field
 asrFields =
-    field "Dt" 8 7 ∷ field "D" 14 9 ∷ field "A" 21 16 ∷ field "At" 25 22 ∷ field "B" 33 28 ∷ field "Bt" 37 34 ∷ field "Bx" 57 56 ∷
-    field "Ax" 59 58 ∷ field "Dx" 61 60 ∷ []
+    fieldAt "Dt" 8 7 ∷ fieldAt "D" 14 9 ∷ fieldAt "A" 21 16 ∷ fieldAt "At" 25 22 ∷ fieldAt "B" 33 28 ∷ fieldAt "Bt" 37 34 ∷ fieldAt "Bx" 57 56 ∷
+    fieldAt "Ax" 59 58 ∷ fieldAt "Dx" 61 60 ∷ []
 
 abbrev pub table : List Printed
 table =
     printed "mov16" (4 ∷ 6 ∷ [])
-      (fixed 6 0 "1100010" ∷ fixed 8 8 "0" ∷ [])
-      (field "L" 15 15 ∷ field "D" 14 9 ∷ field "imm16" 31 16 ∷ field "Dx" 45 44 ∷ field "Dt" 8 7 ∷ [])
+      (fixedAt 6 0 "1100010" ∷ fixedAt 8 8 "0" ∷ [])
+      (fieldAt "L" 15 15 ∷ fieldAt "D" 14 9 ∷ fieldAt "imm16" 31 16 ∷ fieldAt "Dx" 45 44 ∷ fieldAt "Dt" 8 7 ∷ [])
     ∷ printed "mov32" (6 ∷ 8 ∷ [])
-      (fixed 6 0 "1100010" ∷ fixed 8 8 "1" ∷ [])
-      (field "L" 15 15 ∷ field "D" 14 9 ∷ field "imm32" 47 16 ∷ field "Dx" 61 60 ∷ field "Dt" 8 7 ∷ [])
+      (fixedAt 6 0 "1100010" ∷ fixedAt 8 8 "1" ∷ [])
+      (fieldAt "L" 15 15 ∷ fieldAt "D" 14 9 ∷ fieldAt "imm32" 47 16 ∷ fieldAt "Dx" 61 60 ∷ fieldAt "Dt" 8 7 ∷ [])
     ∷ printed "get_sr" (4 ∷ [])
-      (fixed 6 0 "1110010" ∷ fixed 15 15 "0" ∷ [])
-      (field "Dt" 8 7 ∷ field "D" 14 9 ∷ field "SR" 21 16 ∷ field "SRx" 27 26 ∷ field "Dx" 29 28 ∷ [])
+      (fixedAt 6 0 "1110010" ∷ fixedAt 15 15 "0" ∷ [])
+      (fieldAt "Dt" 8 7 ∷ fieldAt "D" 14 9 ∷ fieldAt "SR" 21 16 ∷ fieldAt "SRx" 27 26 ∷ fieldAt "Dx" 29 28 ∷ [])
     ∷ printed "asr" (8 ∷ [])
-      (fixed 6 0 "0101110" ∷ fixed 15 15 "1" ∷ fixed 26 26 "1" ∷ fixed 27 27 "0" ∷ [])
+      (fixedAt 6 0 "0101110" ∷ fixedAt 15 15 "1" ∷ fixedAt 26 26 "1" ∷ fixedAt 27 27 "0" ∷ [])
       asrFields
     ∷ printed "asrh" (8 ∷ [])
-      (fixed 6 0 "0101110" ∷ fixed 15 15 "1" ∷ fixed 26 26 "1" ∷ fixed 27 27 "1" ∷ [])
+      (fixedAt 6 0 "0101110" ∷ fixedAt 15 15 "1" ∷ fixedAt 26 26 "1" ∷ fixedAt 27 27 "1" ∷ [])
       asrFields
     ∷ []
 

@@ -1,5 +1,5 @@
-// Reading the word of a diagram into the parts of its instruction, numbers that are soon laid out or compared: quicker than an instruction
-// that is made and at once taken apart.
+// Reading the word of a diagram into the parts of its instruction, numbers that are soon laid out: quicker than an instruction that is
+// made and at once taken apart.
 ghost use mathlib.Core.Path.{_≡_};
 ghost use Prim.Native.Nat.{_<_};
 ghost use Rattle.isa.specs.Decode.{readAt};

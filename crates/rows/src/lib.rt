@@ -14,7 +14,7 @@ pub struct Row {
     pub value: u64,
 }
 
-// The row at a place. A group of digits is a cell of the diagram, from the top bit down. A match and not an array: an array would be
+// The row at a place. A group of digits is a cell of the strip, from the top bit down. A match and not an array: an array would be
 // laid out on the stack at each call.
 pub fn row_at(place: usize) -> Row
     requires { ⌜ place < 22 ⌝ }

@@ -1,16 +1,13 @@
 -- The invariant: what is first from row i on, with what was seen so far, is first of all.
-use mathlib.Core.Path.{_≡_, refl, sym, ap, _∙_}
+use mathlib.Core.Path.{_≡_, sym, ap, _∙_}
 use mathlib.Core.Bool.{false}
 use mathlib.Core.Logic.{⊎-elim}
-use Prim.Native.Nat.{ℕ, _%_, _-_, _≤_, _<_}
+use Prim.Native.Nat.{_%_, _-_, _≤_, _<_}
 use native.Mathlib.Omega.{arith}
 use lib.ListN.{drop, getD, length}
 use borrow.Author.Needs.{needs}
 use Rattle.bits.specs.Word.{ones}
-use Rattle.isa.specs.Rows.{rows}
-use Rattle.isa.specs.declared.answer.Find.{Find}
 use Rattle.rows.specs.Table.{table, noRow}
-use Rattle.rows.specs.declared.Row.{Row}
 use Rattle.finding.specs.First.{firstOf}
 use Rattle.finding.specs.Candidates.{endIn}
 use Rattle.finding.specs.declared.low.Candidates.{Candidates}

@@ -1,5 +1,4 @@
 use Rattle.isa.specs.Together.{withCompared, withCondition}
-use Rattle.isa.specs.Parts.{partsOf}
 use Rattle.isa.specs.Rows.{rows}
 use borrow.Author.Tests.{eq-eqb, ne-eqb}
 use borrow.Author.Needs.{needs}
