@@ -173,6 +173,8 @@ def digits_of(piece, name):
     text, start = piece[name], piece.start(name)
     if text == "0":
         return Digits(0, [], [])
+    if "" in text[2:].split("_"):
+        raise Unreadable(f"{CODE}: a number has an underscore without a digit beside it")
     at = [start + k for k in range(2, len(text)) if text[k] != "_"]
     return Digits(int(text, 2), text[2:].split("_"), at[::-1])
 
