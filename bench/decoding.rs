@@ -7,7 +7,7 @@ use crate::{exported, median, plain};
 use std::hint::black_box;
 use std::time::Instant;
 
-/// Both programs are called through a pointer that the compiler can't see through: neither becomes a part of the loop around it.
+/// Both programs are called through a pointer whose value the compiler does not know: neither becomes a part of the loop around it.
 type Decode = fn(&[u8], usize, &mut [u8]) -> i32;
 const PROGRAMS: [Decode; 2] = [plain::calls::decode, exported::decode];
 
@@ -25,7 +25,7 @@ const LINES: [(&str, Holds); 9] = [
     ("refused, 4: no meaning", Refused(4)),
 ];
 
-/// Each line has so many kernels, and each of them is walked so often: the processor does not know one when it comes again.
+/// Each line has so many kernels, so that the branch predictor has forgotten one when it comes again; each of them is walked so often.
 const KERNELS: usize = 12;
 const WALKS: usize = 41;
 

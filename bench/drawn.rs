@@ -70,7 +70,7 @@ impl Holds {
                 forms.iter().all(|form| left.iter().any(|one| is_of(one, form)))
                     && left.iter().all(|one| forms.iter().any(|form| is_of(one, form)))
             }
-            Refused(number) => left.iter().all(|(answer, _)| *answer == -number),
+            Refused(number) => !left.is_empty() && left.iter().all(|(answer, _)| *answer == -number),
         }
     }
 }
