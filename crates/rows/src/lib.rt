@@ -2,7 +2,7 @@
 ghost use mathlib.Core.Path.{_≡_};
 ghost use Prim.Native.Nat.{_<_};
 ghost use Rattle.isa.specs.Decode.{rowAt};
-ghost use Rattle.isa.specs.Diagram.{fieldMask, fixedValue};
+ghost use Rattle.isa.specs.Diagram.{fixedValue};
 ghost use Rattle.rows.specs.Table.{table, noRow};
 ghost use lib.ListN.{getD};
 
@@ -211,21 +211,7 @@ pub fn row_at(place: usize) -> Row
     }
 }
 
-// What encoding asks of the row at a place, one by one: of a single answer the compiler makes a constant or a few comparisons.
-pub fn bytes_at(place: usize) -> usize
-    requires { ⌜ place < 22 ⌝ }
-    ensures { λ r. ⌜ r ≡ rowAt place .bytes ⌝ }
-{
-    row_at(place).bytes
-}
-
-pub fn bit_l_at(place: usize) -> u64
-    requires { ⌜ place < 22 ⌝ }
-    ensures { λ r. ⌜ r ≡ fieldMask (rowAt place .fields) "L" ⌝ }
-{
-    row_at(place).bit_l
-}
-
+// The values of a row's fixed bits, for encoding. Asked for alone, they become a constant or a few comparisons in the compiled code.
 pub fn value_at(place: usize) -> u64
     requires { ⌜ place < 22 ⌝ }
     ensures { λ r. ⌜ r ≡ fixedValue (rowAt place .fixeds) ⌝ }
