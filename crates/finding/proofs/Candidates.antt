@@ -1,29 +1,32 @@
 -- Rows that the lowest seven bits rule out do not agree, so the loop can begin after them and stop before them.
 use mathlib.Core.Path.{_≡_, refl, sym, ap, ap₂, _∙_, subst}
-use mathlib.Core.Bool.{Bool, true, false, cond, _&&_}
+use mathlib.Core.Bool.{Bool, true, false, cond}
 use mathlib.Core.List.{List, [], _∷_}
 use Prim.Native.Nat.{ℕ, zero, suc, _*_, _-_, _%_, _^_, _≤_, zero-le, suc-le-suc, _<_}
 use native.Mathlib.Nat.{zero-add, mod-lt, mod-eq-of-lt, le-of-suc-le-suc, not-suc-le-zero}
 use native.Mathlib.Omega.{arith}
 use lib.Bits.{bitAnd, and-comm, and-mod, and-mask}
-use lib.Dec.{T, eqb, ltb, ltb→lt}
-use lib.ListN.{drop, getD, length}
+use lib.Dec.{eqb}
+use lib.ListN.{drop, getD, length, length-map}
 use borrow.Author.Tests.{eqb-true, eqb-false, ne-eqb}
 use Rattle.bits.specs.Word.{ones}
 use Rattle.bits.proofs.Masks.{and-within}
-use Rattle.bits.proofs.Table.{agree, all, all-at, left, right}
+use Rattle.bits.proofs.Table.{agree}
 use Rattle.isa.specs.Rows.{rows}
 use Rattle.isa.specs.Refusal.{refusal}
 use Rattle.isa.specs.declared.answer.Find.{Find}
-use Rattle.rows.specs.Table.{table, noRow}
+use Rattle.isa.proofs.Placed.{length-rows}
+use Rattle.isa.proofs.RowBytes.{bytes-of-row}
+use Rattle.rows.specs.Table.{rowOf, table, noRow}
+use Rattle.rows.proofs.At.{of-diagram}
 use Rattle.rows.specs.declared.Row.{Row}
 use Rattle.finding.specs.First.{agrees, lengthBy, firstOf}
 use Rattle.finding.specs.Candidates.{lowAgrees, firstIn, endIn}
 use Rattle.finding.proofs.Steps.{skip, ends}
 
 pub length-table : length table ≡ 22
-unfolding rows table
-length-table = refl
+unfolding table
+length-table = length-map rows rowOf ∙ length-rows
 
 -- ---- the first and the last that agree
 
@@ -120,18 +123,8 @@ none-lent w n e h =
 
 -- ---- lengths
 
-abbrev fits : Row → Bool
-fits r = ltb 1 (r .bytes) && ltb (r .bytes) 9
-
-all-fit : T (all fits table)
-unfolding rows table
-all-fit = tt
-
 pub bytes-within : (i : ℕ) → i < 22 → (1 < getD table i noRow .bytes) × (getD table i noRow .bytes < 9)
-bytes-within i h =
-    let t = all-at fits table noRow all-fit i (rw length-table h) in
-    (ltb→lt 1 (getD table i noRow .bytes) (left (ltb 1 (getD table i noRow .bytes)) _ t),
-      ltb→lt (getD table i noRow .bytes) 9 (right (ltb 1 (getD table i noRow .bytes)) _ t))
+bytes-within i h = let b = bytes-of-row i h in rw (of-diagram i) (omega arith, omega arith)
 
 pub length-within : (r : Row) (w : ℕ) → r .bytes < 9 → lengthBy r w < 9
 length-within r w h = go (eqb (bitAnd w (r .«bit_l»)) (r .«bit_l»))

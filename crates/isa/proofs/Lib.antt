@@ -8,3 +8,4 @@ pub mod Cases
 pub mod Found
 pub mod WasRead
 pub mod Placed
+pub mod RowBytes

@@ -3,7 +3,7 @@ use mathlib.Core.Path.{_≡_}
 use mathlib.Core.Bool.{Bool, true, false, cond, _&&_}
 use Prim.Native.Nat.{ℕ, _-_, _≤_, _<_}
 use native.Mathlib.Omega.{arith}
-use lib.Dec.{T, eqb, eqb→eq, leb, leb→le, ltb, ltb→lt}
+use lib.Dec.{T, eqb, leb, leb→le}
 use lib.ListN.{List·getD-eq-default}
 use Rattle.bits.proofs.Table.{left, right, all, all-at}
 use Rattle.isa.specs.Diagram.{Diagram, fieldMask}
@@ -13,6 +13,7 @@ use Rattle.isa.specs.Decode.{noDiagram, rowAt}
 use Rattle.isa.specs.Parts.{placeOf, partsOf, lengthFor}
 use Rattle.isa.specs.declared.instruction.Instruction.{Instruction}
 use Rattle.isa.proofs.Placed.{length-rows, place-below}
+use Rattle.isa.proofs.RowBytes.{bytes-of-row, two-absent}
 use Rattle.isa.specs.declared.parts.Parts.{Parts}
 
 -- ---- four to eight bytes
@@ -41,21 +42,10 @@ length-for i = row (eqb (partsOf i .l) 0) (placeOf i) (place-below i)
 
 -- ---- by the row of the kind
 
--- two bytes are absent where L is 0, and there are more
-abbrev twoAbsent : Diagram → Bool
-twoAbsent d = eqb (absent (d .bytes)) 2 && ltb 1 (d .bytes)
-
-all-two : T (all twoAbsent rows)
-unfolding rows
-all-two = tt
-
 -- from the bytes n of the row, and its bit L
 module _ (p : Parts) (place n : ℕ) (k : place ≡ p .kind - 1) (h : place < 22) (en : n ≡ rowAt place .bytes) where
-  two : T (twoAbsent (rowAt place))
-  two = all-at twoAbsent rows noDiagram all-two place (rw length-rows h)
-
   pub more-than-one : 1 < n
-  more-than-one = rw en (ltb→lt 1 (rowAt place .bytes) (right (eqb (absent (rowAt place .bytes)) 2) _ two))
+  more-than-one = let b = bytes-of-row place h in rw en (omega arith)
 
   abbrev byRow : ℕ → ℕ
   byRow l = cond (eqb l 0) n (cond (eqb (p .l) 0) (n - 2) n)
@@ -63,7 +53,7 @@ module _ (p : Parts) (place n : ℕ) (k : place ≡ p .kind - 1) (h : place < 22
   pub by-row : (l : ℕ) → l ≡ fieldMask (rowAt place .fields) "L" → (byRow l ≡ lengthFor p) × (byRow l < 9)
   unfolding lengthFor
   by-row l el =
-      let t : absent (rowAt place .bytes) ≡ 2 = eqb→eq _ 2 (left (eqb (absent (rowAt place .bytes)) 2) _ two) in
+      let t = two-absent (rowAt place .bytes) (bytes-of-row place h .1) in
       let q : byRow l ≡ lengthFor p = rw (en, el, ← k, t) in
       let b = row (eqb (p .l) 0) place h in
       (q, rw (en, el, ← t) (omega arith))

@@ -15,7 +15,7 @@ fn place_of(kind: u8) -> usize
     if kind == 0 { 0 } else { (kind as usize) - 1 }
 }
 
-// The length and the bit L of the row at a place. Each asked for alone, they become a few comparisons in the compiled code.
+// The length and the bit L of the row at a place. Each asked for alone, they are a few comparisons in the compiled code.
 fn bytes_at(place: usize) -> usize
     requires { ⌜ place < 22 ⌝ }
     ensures { λ r. ⌜ r ≡ rowAt place .bytes ⌝ }

@@ -211,7 +211,7 @@ pub fn row_at(place: usize) -> Row
     }
 }
 
-// The values of a row's fixed bits, for encoding. Asked for alone, they become a constant or a few comparisons in the compiled code.
+// The values of a row's fixed bits, for encoding. Asked for alone, they are a constant or one load in the compiled code.
 pub fn value_at(place: usize) -> u64
     requires { ⌜ place < 22 ⌝ }
     ensures { λ r. ⌜ r ≡ fixedValue (rowAt place .fixeds) ⌝ }
