@@ -6,11 +6,14 @@ are then at work.
 """
 import os
 import pty
+import select
 import signal
 import sys
+import termios
 import time
 
 copy, room, how, *words = sys.argv[1:]
+END = b"\x1a"
 # the terminal's first process stays until all was seen: its end would end the others
 news, tell = os.pipe()
 first, terminal = pty.fork()
@@ -20,12 +23,19 @@ if first == 0:
         os.setpgid(0, 0)
         signal.signal(signal.SIGTTOU, signal.SIG_IGN)
         os.tcsetpgrp(0, os.getpid())
+        # a ^C would take away what the terminal has not handed on yet
+        modes = termios.tcgetattr(0)
+        modes[3] |= termios.NOFLSH
+        termios.tcsetattr(0, termios.TCSANOW, modes)
         # the tests may run in the background, where two of these are ignored
         for name in (signal.SIGINT, signal.SIGQUIT, signal.SIGTTOU):
             signal.signal(name, signal.SIG_DFL)
         os.execv(copy + "/reedtassel", ["reedtassel", *words])
     os.write(tell, b"%d\n" % run)
-    os.write(tell, b"%d\n" % os.waitstatus_to_exitcode(os.waitpid(run, 0)[1]))
+    ended = os.waitpid(run, 0)[1]
+    # the last that the terminal hands on
+    os.write(1, END)
+    os.write(tell, b"%d\n" % os.waitstatus_to_exitcode(ended))
     signal.pause()
 run = int(os.read(news, 100))
 while not os.path.exists(copy + "/children"):
@@ -55,9 +65,10 @@ for _ in range(20):
         break
     time.sleep(0.02)
 open(room + "/left", "w").write(" ".join(left))
-os.set_blocking(terminal, False)
-said = os.read(terminal, 10000)
-open(room + "/err", "wb").write(said.replace(b"\r\n", b"\n").replace(b"^C", b""))
+said = b""
+while END not in said and select.select([terminal], [], [], 10)[0]:
+    said += os.read(terminal, 10000)
+open(room + "/err", "wb").write(said.partition(END)[0].replace(b"\r\n", b"\n").replace(b"^C", b""))
 for pid in left:
     os.kill(int(pid), signal.SIGKILL)
 os.kill(first, signal.SIGKILL)
