@@ -1,17 +1,22 @@
-//! The kernels that are timed, and what is lent to them. Each is a loop that never ends by itself, so that a run makes as many
-//! steps as its budget has.
+//! The kernels that are timed, and what is lent to them. All but the last are loops that never end by themselves, so that a run
+//! makes as many steps as its budget has.
 
 use crate::assemble::{Asr, Cc, Code, Field, Icmp, Op, Op::*, Scan, Sum, Term};
+use crate::plain::Ending;
 
 pub const REGISTERS: usize = 128;
 pub const SPECIALS: usize = 8;
 pub const BUDGET: usize = 4096;
 
-/// A kernel and the mask that it starts with.
+/// The most bytes that a run takes.
+const CODE: usize = 8192;
+
+/// A kernel, the mask that it starts with, and how its run ends.
 pub struct Kernel {
     pub name: &'static str,
     pub code: Vec<u8>,
     pub mask: u32,
+    pub ending: Ending,
 }
 
 /// What a run is lent besides the code.
@@ -32,6 +37,9 @@ pub fn all() -> Vec<Kernel> {
         looped("bitfields", u32::MAX, bitfields),
         looped("masks and jumps", u32::MAX, masks),
         looped("moves and scans", u32::MAX, moves),
+        looped("scans", u32::MAX, scans),
+        looped("pop_exec and jumps", u32::MAX, pops),
+        straight("8 KB without a loop", u32::MAX),
     ]
 }
 
@@ -58,7 +66,28 @@ fn looped(name: &'static str, mask: u32, body: fn(&mut Code)) -> Kernel {
     let mut code = Code::default();
     body(&mut code);
     code.jmp_exec_any(0);
-    Kernel { name, code: code.0, mask }
+    Kernel { name, code: code.0, mask, ending: Ending::Spent }
+}
+
+/// As many data instructions as the longest code holds, each done once.
+fn straight(name: &'static str, mask: u32) -> Kernel {
+    let bodies = [arithmetic16, arithmetic32, moves, arithmetic64, bitfields, saturating, scans];
+    let mut code = Code::default();
+    for body in bodies.iter().cycle() {
+        let mut next = Code::default();
+        body(&mut next);
+        if code.here() + next.here() > CODE {
+            break;
+        }
+        code.0.append(&mut next.0);
+    }
+    if (CODE - code.here()) % 4 != 0 {
+        code.mov16(Lo(4), 0x1234);
+    }
+    while code.here() < CODE {
+        code.get_sr(Reg(5), 3);
+    }
+    Kernel { name, code: code.0, mask, ending: Ending::Finished }
 }
 
 fn unsigned(op: Op) -> Term {
@@ -184,5 +213,30 @@ fn moves(code: &mut Code) {
         code.scan(Scan::Popcount, Lo(r + 32), Reg(r + 24));
         code.scan(Scan::Ffs, Hi(r + 32), Reg(r + 16));
         code.bitop(Reg(r + 40), Reg(r + 24), U(r), AND);
+    }
+}
+
+fn scans(code: &mut Code) {
+    for r in 4..8 {
+        code.scan(Scan::Bitrev, Reg(r), Reg(r + 40));
+        code.scan(Scan::Popcount, Reg(r + 8), Reg(r));
+        code.scan(Scan::Ffs, Reg(r + 16), Reg(r + 40));
+        code.scan(Scan::Bitrev, Lo(r + 24), Hi(r + 40));
+        code.scan(Scan::Popcount, Hi(r + 24), U(r));
+        code.scan(Scan::Ffs, Lo(r + 32), Lo(r + 24));
+    }
+}
+
+/// Jumps that are taken, jumps that are not, and pop_exec between them; the mask stays as it is.
+fn pops(code: &mut Code) {
+    for _ in 0..8 {
+        code.pop_exec(1);
+        let not_taken = code.jmp_exec_none();
+        code.land(not_taken);
+        code.pop_exec(0);
+        let over = code.here() + 12;
+        code.jmp_exec_any(over);
+        code.pop_exec(3);
+        code.pop_exec(2);
     }
 }

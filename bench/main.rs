@@ -12,7 +12,7 @@ mod plain;
 mod programs;
 
 use kernels::{lent, Kernel, BUDGET, REGISTERS, SPECIALS};
-use plain::{Answer, Ending};
+use plain::Answer;
 use programs::{Plain, Program, Proved};
 
 const ROUNDS: usize = 41;
@@ -35,7 +35,7 @@ fn main() {
 /// Times the runs of each kernel and prints them; false if the two programs leave something different.
 fn time_runs() -> bool {
     let (large, small) = (no_step(REGISTERS, SPECIALS), no_step(FEW, 0));
-    println!("steps per second, median of {ROUNDS} runs of {BUDGET} steps");
+    println!("steps per second, median of {ROUNDS} runs, of {BUDGET} steps where the kernel is a loop");
     println!("ratio = time of plain Rust / time of the proved program: 1.00 as fast as plain Rust, above 1 faster");
     println!("a call of the proved program that makes no step, for the bytes alone:");
     println!("  {:6.0} ns with {REGISTERS} registers and {SPECIALS} special registers (large)", large * 1e9);
@@ -70,13 +70,14 @@ fn time(kernel: &Kernel, large: f64, small: f64) -> bool {
         proved.round(kernel, round >= WARM_UP);
     }
     let answer = plain.answer.expect("it ran");
-    assert_eq!((answer.ending, answer.steps), (Ending::Spent, BUDGET), "{}", kernel.name);
+    assert_eq!(answer.ending, kernel.ending, "{}", kernel.name);
     let same = leave_the_same(&plain, &proved);
     let [own, other] = [median(plain.times), median(proved.times)];
-    let steps = (other - large).max(0.0);
-    let part = |call: f64| format!("{:.2}%", 100.0 * call / (call + steps));
-    print!("{:24} {:13.1} {:11.0}", kernel.name, own * 1e9 / BUDGET as f64, BUDGET as f64 / own);
-    println!(" {:11.0} {:6.2} {:>6} {:>6}", BUDGET as f64 / other, own / other, part(large), part(small));
+    let all = (other - large).max(0.0);
+    let part = |call: f64| format!("{:.2}%", 100.0 * call / (call + all));
+    let steps = answer.steps as f64;
+    print!("{:24} {:13.1} {:11.0}", kernel.name, own * 1e9 / steps, steps / own);
+    println!(" {:11.0} {:6.2} {:>6} {:>6}", steps / other, own / other, part(large), part(small));
     same
 }
 

@@ -3,10 +3,10 @@ ghost use mathlib.Core.Path.{_≡_};
 ghost use Rattle.machine.specs.Words.{destinationSize};
 ghost use Rattle.machine.specs.Meaning.{none, input, size};
 ghost use Rattle.machine.specs.declared.input.Input.{Input as SpecsInput};
-ghost use Rattle.action.specs.Acts.{writesBy, sumFor, productFor, testFor};
-ghost use Rattle.operations.specs.declared.action.Action.{Action};
+ghost use Rattle.action.specs.Acts.{writesBy, masksBy, jumpsBy, sumFor, productFor, testFor};
 ghost use Rattle.operations.specs.declared.Operation.{Operation};
 use operations::action::Action;
+use operations::action::Kind;
 use operations::Operation;
 use operations::Sum;
 use operations::Test;
@@ -47,48 +47,66 @@ fn destination_size(d: Dst) -> u8
     }
 }
 
+// A data instruction.
+fn writes(d: Dst, a: Input, b: Input, c: Input, operation: Operation) -> Action
+    ensures { λ r. ⌜ r ≡ writesBy d a b c operation ⌝ }
+{
+    let destination = d.destination;
+    Action { kind: Kind::Writes, d: destination, a, b, c, operation, off: 0 }
+}
+
+// A mask instruction.
+fn masks(a: Input, b: Input, operation: Operation) -> Action
+    ensures { λ r. ⌜ r ≡ masksBy a b operation ⌝ }
+{
+    Action { kind: Kind::Masks, d: Destination::Half(0), a, b, c: Input::Nothing, operation, off: 0 }
+}
+
+pub fn jumps(kind: Kind, off: u32) -> Action
+    ensures { λ r. ⌜ r ≡ jumpsBy kind off ⌝ }
+{
+    let none = Input::Nothing;
+    Action { kind, d: Destination::Half(0), a: none, b: none, c: none, operation: Operation::Mov(0), off }
+}
+
 pub fn moves(d: Dst, imm: u32) -> Action
     ensures { λ r. ⌜ r ≡ writesBy d none none none (Operation.Mov imm) ⌝ }
 {
-    let destination = d.destination;
-    Action::Writes { d: destination, a: Input::Nothing, b: Input::Nothing, c: Input::Nothing, operation: Operation::Mov(imm) }
+    let none = Input::Nothing;
+    writes(d, none, none, none, Operation::Mov(imm))
 }
 
 pub fn special(d: Dst, sr: u8) -> Action
     ensures { λ r. ⌜ r ≡ writesBy d (SpecsInput.Special sr) none none Operation.GetSr ⌝ }
 {
-    let destination = d.destination;
-    Action::Writes { d: destination, a: Input::Special(sr), b: Input::Nothing, c: Input::Nothing, operation: Operation::GetSr }
+    writes(d, Input::Special(sr), Input::Nothing, Input::Nothing, Operation::GetSr)
 }
 
 pub fn unary(o: Unary, operation: Operation) -> Action
     ensures { λ r. ⌜ r ≡ writesBy (o .d) (input (o .a)) none none operation ⌝ }
 {
     let d = o.d;
-    let destination = d.destination;
     let a = o.a;
-    Action::Writes { d: destination, a: Input::Operand(a), b: Input::Nothing, c: Input::Nothing, operation }
+    writes(d, Input::Operand(a), Input::Nothing, Input::Nothing, operation)
 }
 
 pub fn binary(o: Binary, operation: Operation) -> Action
     ensures { λ r. ⌜ r ≡ writesBy (o .d) (input (o .a)) (input (o .b)) none operation ⌝ }
 {
     let d = o.d;
-    let destination = d.destination;
     let a = o.a;
     let b = o.b;
-    Action::Writes { d: destination, a: Input::Operand(a), b: Input::Operand(b), c: Input::Nothing, operation }
+    writes(d, Input::Operand(a), Input::Operand(b), Input::Nothing, operation)
 }
 
 pub fn ternary(o: Ternary, operation: Operation) -> Action
     ensures { λ r. ⌜ r ≡ writesBy (o .d) (input (o .a)) (input (o .b)) (input (o .c)) operation ⌝ }
 {
     let d = o.d;
-    let destination = d.destination;
     let a = o.a;
     let b = o.b;
     let c = o.c;
-    Action::Writes { d: destination, a: Input::Operand(a), b: Input::Operand(b), c: Input::Operand(c), operation }
+    writes(d, Input::Operand(a), Input::Operand(b), Input::Operand(c), operation)
 }
 
 pub fn asr(o: Binary) -> Action
@@ -147,10 +165,16 @@ pub fn test(o: Compare) -> Test
     Test { cc: o.cc, ccn: o.ccn, asize, bsize, n: o.n }
 }
 
-pub fn masks(o: Compared, operation: Operation) -> Action
-    ensures { λ r. ⌜ r ≡ Action.Masks (input (o .a)) (input (o .b)) operation ⌝ }
+pub fn compares(o: Compared, operation: Operation) -> Action
+    ensures { λ r. ⌜ r ≡ masksBy (input (o .a)) (input (o .b)) operation ⌝ }
 {
     let a = o.a;
     let b = o.b;
-    Action::Masks { a: Input::Operand(a), b: Input::Operand(b), operation }
+    masks(Input::Operand(a), Input::Operand(b), operation)
+}
+
+pub fn pops(n: u8) -> Action
+    ensures { λ r. ⌜ r ≡ masksBy none none (Operation.PopExec n) ⌝ }
+{
+    masks(Input::Nothing, Input::Nothing, Operation::PopExec(n))
 }

@@ -4,10 +4,10 @@ ghost use Rattle.action.specs.Acts.{Acts, Narrow};
 mod acts;
 
 use isa::instruction::Instruction;
-use machine::input::Input;
 use operations::Operation;
 use operations::Truth;
 use operations::action::Action;
+use operations::action::Kind;
 
 pub fn action_of(i: Instruction) -> Action
     requires { ⌜ Narrow i ⌝ }
@@ -36,13 +36,11 @@ pub fn action_of(i: Instruction) -> Action
         Instruction::Bitrev(o) => acts::unary(o.operands, Operation::Bitrev),
         Instruction::Popcount(o) => acts::unary(o.operands, Operation::Popcount),
         Instruction::Ffs(o) => acts::unary(o.operands, Operation::Ffs),
-        Instruction::JmpExecAny { off } => Action::Jumps { any: true, off },
-        Instruction::JmpExecNone { off } => Action::Jumps { any: false, off },
-        Instruction::PopExec { hint: _, n, kept: _ } => {
-            Action::Masks { a: Input::Nothing, b: Input::Nothing, operation: Operation::PopExec(n) }
-        }
-        Instruction::IfIcmp(o) => acts::masks(o.operands, Operation::IfIcmp(acts::test(o))),
-        Instruction::WhileIcmp(o) => acts::masks(o.operands, Operation::WhileIcmp(acts::test(o))),
-        Instruction::ElseIcmp(o) => acts::masks(o.operands, Operation::ElseIcmp(acts::test(o))),
+        Instruction::JmpExecAny { off } => acts::jumps(Kind::JumpsIfAny, off),
+        Instruction::JmpExecNone { off } => acts::jumps(Kind::JumpsIfNone, off),
+        Instruction::PopExec { hint: _, n, kept: _ } => acts::pops(n),
+        Instruction::IfIcmp(o) => acts::compares(o.operands, Operation::IfIcmp(acts::test(o))),
+        Instruction::WhileIcmp(o) => acts::compares(o.operands, Operation::WhileIcmp(acts::test(o))),
+        Instruction::ElseIcmp(o) => acts::compares(o.operands, Operation::ElseIcmp(acts::test(o))),
     }
 }

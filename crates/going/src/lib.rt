@@ -2,32 +2,57 @@
 // targets outside the code.
 ghost use mathlib.Core.Path.{_≡_};
 ghost use Prim.Native.Nat.{_<_, _^_};
+ghost use Rattle.machine.specs.Integer.{signExtend};
+ghost use Rattle.machine.specs.Meaning.{jumps};
 ghost use Rattle.machine.specs.Step.{registersReach, specialsReach, goingOf};
 ghost use Rattle.operations.specs.Action.{meaningBy};
 ghost use Rattle.jumps.specs.AsGoing.{asGoing};
 
 use operations::action::Action;
+use operations::action::Kind;
 use jumps::Going;
 
 // How many registers there have to be.
-pub fn registers_reach(action: Action) -> usize
+pub fn registers_reach(action: Action) -> u16
     ensures { λ r. ⌜ r ≡ registersReach (meaningBy action) ⌝ }
 {
-    match action {
-        Action::Writes { d, a, b, c, operation: _ } => reach::most4(reach::destination(d), reach::input(a), reach::input(b), reach::input(c)),
-        Action::Masks { a, b, operation: _ } => reach::most3(1, reach::input(a), reach::input(b)),
-        Action::Jumps { any: _, off: _ } => 0,
+    let kind = action.kind;
+    let d = action.d;
+    let a = action.a;
+    let b = action.b;
+    let c = action.c;
+    match kind {
+        Kind::Writes => reach::most4(reach::destination(d), reach::input(a), reach::input(b), reach::input(c)),
+        Kind::Masks => reach::most3(1, reach::input(a), reach::input(b)),
+        Kind::JumpsIfAny => 0,
+        Kind::JumpsIfNone => 0,
     }
 }
 
 // How many special registers there have to be.
-pub fn specials_reach(action: Action) -> usize
+pub fn specials_reach(action: Action) -> u16
     ensures { λ r. ⌜ r ≡ specialsReach (meaningBy action) ⌝ }
 {
-    match action {
-        Action::Writes { d: _, a, b, c, operation: _ } => reach::most3(reach::special(a), reach::special(b), reach::special(c)),
-        Action::Masks { a, b, operation: _ } => reach::most(reach::special(a), reach::special(b)),
-        Action::Jumps { any: _, off: _ } => 0,
+    let kind = action.kind;
+    let a = action.a;
+    let b = action.b;
+    let c = action.c;
+    match kind {
+        Kind::Writes => reach::most3(reach::special(a), reach::special(b), reach::special(c)),
+        Kind::Masks => reach::most(reach::special(a), reach::special(b)),
+        Kind::JumpsIfAny => 0,
+        Kind::JumpsIfNone => 0,
+    }
+}
+
+fn jumps_to(any: bool, off: u32, length: usize, bytes: usize, address: usize, mask: u32) -> Going
+    requires { ⌜ (address < 2 ^ 32) × (bytes < 2 ^ 32) ⌝ }
+    ensures { λ r. ⌜ asGoing r ≡ goingOf (jumps any (signExtend off 32)) length bytes address mask ⌝ }
+{
+    if jumps::taken(any, mask) {
+        jumps::landing(length, address, off)
+    } else {
+        Going::To(address + bytes, 3)
     }
 }
 
@@ -35,15 +60,11 @@ pub fn goes_to(action: Action, length: usize, bytes: usize, address: usize, mask
     requires { ⌜ (address < 2 ^ 32) × (bytes < 2 ^ 32) ⌝ }
     ensures { λ r. ⌜ asGoing r ≡ goingOf (meaningBy action) length bytes address mask ⌝ }
 {
-    match action {
-        Action::Writes { d: _, a: _, b: _, c: _, operation: _ } => Going::To(address + bytes, 1),
-        Action::Masks { a: _, b: _, operation: _ } => Going::To(address + bytes, 2),
-        Action::Jumps { any, off } => {
-            if jumps::taken(any, mask) {
-                jumps::landing(length, address, off)
-            } else {
-                Going::To(address + bytes, 3)
-            }
-        }
+    let kind = action.kind;
+    match kind {
+        Kind::Writes => Going::To(address + bytes, 1),
+        Kind::Masks => Going::To(address + bytes, 2),
+        Kind::JumpsIfAny => jumps_to(true, action.off, length, bytes, address, mask),
+        Kind::JumpsIfNone => jumps_to(false, action.off, length, bytes, address, mask),
     }
 }

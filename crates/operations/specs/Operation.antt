@@ -1,8 +1,11 @@
--- What an operation computes from the values of three sources, by the definitions of the machine; and of which operands that is the
--- definition: the bit sizes beside an operation are those of its operands, and each value is within its size.
+-- What an operation computes from the values of three sources, by the definitions of the machine; which of the three it looks at; and of
+-- which operands that is the definition: the bit sizes beside an operation are those of its operands, and each value is within its size.
 use Prim.Native.Nat.{ℕ, _≤_, _<_, _^_}
-use mathlib.Core.List.{List}
-use Rattle.machine.specs.Step.{Result, sourceAt}
+use mathlib.Core.Path.{_≡_}
+use mathlib.Core.Bool.{Bool, true, false}
+use mathlib.Core.List.{List, []}
+use lib.ListN.{getD}
+use Rattle.machine.specs.Step.{Result}
 use Rattle.machine.specs.Meaning as meaning
 use Rattle.operations.specs.declared.Sum.{Sum}
 use Rattle.operations.specs.declared.Test.{Test}
@@ -37,6 +40,37 @@ resultBy (Operation.PopExec n) = meaning.popExec n
 resultBy (Operation.IfIcmp o) = meaning.ifIcmp (conditionOf o) (o .n)
 resultBy (Operation.WhileIcmp o) = meaning.whileIcmp (conditionOf o) (o .n)
 resultBy (Operation.ElseIcmp o) = meaning.elseIcmp (conditionOf o) (o .n)
+
+-- ---- which sources an operation looks at
+
+pub record Looks : Type 0 where
+  pub a : Bool
+  pub b : Bool
+  pub c : Bool
+
+abbrev pub looks : Bool → Bool → Bool → Looks
+looks a b c = record { a = a; b = b; c = c }
+
+abbrev pub looksBy : Operation → Looks
+looksBy (Operation.Mov imm) = looks false false false
+looksBy Operation.GetSr = looks true false false
+looksBy (Operation.Iadd o) = looks true true false
+looksBy (Operation.Imadd o) = looks true true true
+looksBy (Operation.Bfi m) = looks true true true
+looksBy (Operation.Bfeil m) = looks true true true
+looksBy (Operation.Extr m) = looks true true true
+looksBy (Operation.Shlhi m) = looks true true true
+looksBy (Operation.Shrhi m) = looks true true true
+looksBy (Operation.Asr size) = looks true true false
+looksBy (Operation.Asrh size) = looks true true false
+looksBy (Operation.Bitop o) = looks true true false
+looksBy Operation.Bitrev = looks true false false
+looksBy Operation.Popcount = looks true false false
+looksBy Operation.Ffs = looks true false false
+looksBy (Operation.PopExec n) = looks false false true
+looksBy (Operation.IfIcmp o) = looks true true true
+looksBy (Operation.WhileIcmp o) = looks true true true
+looksBy (Operation.ElseIcmp o) = looks true true true
 
 -- ---- sizes and values
 
@@ -94,6 +128,12 @@ pub record ValuesWithin (o : Operation) (x y z : ℕ) : Type 0 where
   pub b : y < 2 ^ sizesBy o .b
   pub c : z < 2 ^ sizesBy o .c
 
--- and so of all 32
-abbrev pub ValuesWithinAll : Operation → List (List ℕ) → Type 0
-ValuesWithinAll o sources = (t : ℕ) → t < 32 → ValuesWithin o (sourceAt sources 0 t) (sourceAt sources 1 t) (sourceAt sources 2 t)
+-- the values of a row have no more bits than the size
+abbrev pub Within : List ℕ → ℕ → Type 0
+Within row size = (t : ℕ) → t < 32 → getD row t 0 < 2 ^ size
+
+-- of each source that the operation looks at, the values of all 32 threads are within their size
+pub record RowsWithin (o : Operation) (sources : List (List ℕ)) : Type 0 where
+  pub a : looksBy o .a ≡ true → Within (getD sources 0 []) (sizesBy o .a)
+  pub b : looksBy o .b ≡ true → Within (getD sources 1 []) (sizesBy o .b)
+  pub c : looksBy o .c ≡ true → Within (getD sources 2 []) (sizesBy o .c)

@@ -4,21 +4,21 @@ use isa::operand::Destination;
 use machine::input::Input;
 
 // Data instructions write a destination, mask instructions work on r0l and the mask, jumps change the address.
-pub enum Action {
-    Writes {
-        d: Destination,
-        a: Input,
-        b: Input,
-        c: Input,
-        operation: Operation,
-    },
-    Masks {
-        a: Input,
-        b: Input,
-        operation: Operation,
-    },
-    Jumps {
-        any: bool,
-        off: u32,
-    },
+pub enum Kind {
+    Writes,
+    Masks,
+    JumpsIfAny,
+    JumpsIfNone,
+}
+
+// A struct, so that each part has a place of its own and need not be put together when the action is handed on. What a kind has no use
+// for is the half 0, nothing, an operation that looks at nothing, or 0.
+pub struct Action {
+    pub kind: Kind,
+    pub d: Destination,
+    pub a: Input,
+    pub b: Input,
+    pub c: Input,
+    pub operation: Operation,
+    pub off: u32,
 }

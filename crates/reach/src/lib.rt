@@ -6,31 +6,31 @@ use isa::operand::Destination;
 use isa::operand::Source;
 use machine::input::Input;
 
-pub fn most(x: usize, y: usize) -> usize
+pub fn most(x: u16, y: u16) -> u16
     ensures { λ r. ⌜ r ≡ max x y ⌝ }
 {
     if x < y { y } else { x }
 }
 
-pub fn most3(x: usize, y: usize, z: usize) -> usize
+pub fn most3(x: u16, y: u16, z: u16) -> u16
     ensures { λ r. ⌜ r ≡ max x (max y z) ⌝ }
 {
     most(x, most(y, z))
 }
 
-pub fn most4(w: usize, x: usize, y: usize, z: usize) -> usize
+pub fn most4(w: u16, x: u16, y: u16, z: u16) -> u16
     ensures { λ r. ⌜ r ≡ max w (max x (max y z)) ⌝ }
 {
     most(w, most3(x, y, z))
 }
 
-fn index(r: u8) -> usize
+fn index(r: u8) -> u16
     ensures { λ i. ⌜ i ≡ r ⌝ }
 {
-    r as usize
+    r as u16
 }
 
-pub fn destination(d: Destination) -> usize
+pub fn destination(d: Destination) -> u16
     ensures { λ r. ⌜ r ≡ destinationReach d ⌝ }
 {
     match d {
@@ -40,7 +40,7 @@ pub fn destination(d: Destination) -> usize
     }
 }
 
-fn source(s: Source) -> usize
+fn source(s: Source) -> u16
     ensures { λ r. ⌜ r ≡ sourceReach s ⌝ }
 {
     match s {
@@ -54,7 +54,7 @@ fn source(s: Source) -> usize
     }
 }
 
-pub fn input(x: Input) -> usize
+pub fn input(x: Input) -> u16
     ensures { λ r. ⌜ r ≡ inputReach x ⌝ }
 {
     match x {
@@ -67,7 +67,7 @@ pub fn input(x: Input) -> usize
     }
 }
 
-pub fn special(x: Input) -> usize
+pub fn special(x: Input) -> u16
     ensures { λ r. ⌜ r ≡ specialReach x ⌝ }
 {
     match x {
