@@ -68,7 +68,7 @@ imadd-narrow w =
 
 -- ---- what was decoded
 
-narrow-at : (p w : ℕ) → p < 22 → (i : Instruction) → readAt p w ≡ Reading.Is i → Narrow i
+pub narrow-at : (p w : ℕ) → p < 22 → (i : Instruction) → readAt p w ≡ Reading.Is i → Narrow i
 unfolding partsOf
 narrow-at p w h i e = record {
   factors = λ o S N As Bs Cs shift kept q.

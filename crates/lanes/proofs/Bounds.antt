@@ -5,13 +5,13 @@ use mathlib.Core.List.{List, [], _∷_}
 use Prim.Native.Nat.{ℕ, _/_, _%_, _^_, _<_}
 use native.Mathlib.Omega.{arith}
 use lib.Dec.{eqb}
-use lib.ListN.{set, replicate}
+use lib.ListN.{length, getD, set}
 use Rattle.machine.specs.Lanes.{tab}
-use Rattle.machine.specs.Words.{halfOf, pairOf, sourceValue, sourceSize, inputSize}
+use Rattle.machine.specs.Words.{Tables, halfOf, pairOf, sourceValue, sourceSize}
 use Rattle.machine.specs.declared.input.Input.{Input}
 use Rattle.machine.proofs.Tab.{getD-tab, tab-cong}
 use Rattle.isa.specs.declared.operand.Source.{Source}
-use Rattle.lanes.specs.Sources.{Row, Bounded}
+use Rattle.lanes.specs.Sources.{Row, RowOver, Bounded, gatherOver}
 
 pub half-below : (h word : ℕ) → word < 2 ^ 32 → halfOf h word < 2 ^ 16
 half-below h word b = go (eqb (h % 2) 0)
@@ -36,11 +36,16 @@ source-made registers uniforms row s s′ f e p q b =
     (row-made (sourceValue registers uniforms s′) (sourceSize s′) row
     (p ∙ tab-cong 32 f (sourceValue registers uniforms s′) (λ t h. q t)) b)
 
--- three rows of zeros become three rows of values
-pub gathered : (sources : List (List ℕ)) (x y z : List ℕ) (f g h : ℕ → ℕ) (a b c : Input) → sources ≡ replicate 3 (replicate 32 0)
-    → Row x f (inputSize a) → Row y g (inputSize b) → Row z h (inputSize c)
-    → (set (set (set sources 0 x) 1 y) 2 z ≡ tab 32 f ∷ tab 32 g ∷ tab 32 h ∷ [])
+-- three rows become those of three sources
+pub gathered : (tables : Tables) (registers : List ℕ) (sources : List (List ℕ)) (x y z : List ℕ) (a b c : Input) → length sources ≡ 3
+    → RowOver a tables registers (getD sources 0 []) x → RowOver b tables registers (getD (set sources 0 x) 1 []) y
+    → RowOver c tables registers (getD (set (set sources 0 x) 1 y) 2 []) z
+    → (set (set (set sources 0 x) 1 y) 2 z ≡ gatherOver tables registers a b c sources)
     × Bounded (set (set (set sources 0 x) 1 y) 2 z) a b c
-gathered sources x y z f g h a b c e p q r =
-    rw (ap (λ (l : List (List ℕ)). set (set (set l 0 x) 1 y) 2 z) e)
-    ((λ i. p .0 i ∷ q .0 i ∷ r .0 i ∷ []), record { a = p .1; b = q .1; c = r .1 })
+unfolding gatherOver
+gathered tables registers (p ∷ q ∷ r ∷ []) x y z a b c e f g h =
+    ((λ i. f .0 i ∷ g .0 i ∷ h .0 i ∷ []), record { a = f .1; b = g .1; c = h .1 })
+gathered tables registers [] x y z a b c e f g h = absurd (omega arith)
+gathered tables registers (p ∷ []) x y z a b c e f g h = absurd (omega arith)
+gathered tables registers (p ∷ q ∷ []) x y z a b c e f g h = absurd (omega arith)
+gathered tables registers (p ∷ q ∷ r ∷ s ∷ l) x y z a b c e f g h = absurd (omega arith)

@@ -1,11 +1,10 @@
 -- What the rows of sources hold: a thread's value by the kind of operand, and how many bits it has.
 use Prim.Native.Nat.{ℕ, _+_, _*_, _/_, _≤_, _<_, _^_}
 use mathlib.Core.Path.{_≡_}
-use mathlib.Core.List.{List}
+use mathlib.Core.List.{List, [], _∷_}
 use lib.ListN.{length, getD}
 use Rattle.machine.specs.Lanes.{tab}
-use Rattle.machine.specs.Words.{Tables, halfOf, pairOf, wordAt, inputSize, inputReach, specialReach}
-use Rattle.machine.specs.Step.{sourceAt}
+use Rattle.machine.specs.Words.{Tables, halfOf, pairOf, wordAt, valueOf, inputSize, inputReach, specialReach}
 use Rattle.machine.specs.declared.input.Input.{Input}
 
 -- the lent tables
@@ -26,8 +25,27 @@ pairAt words r t = pairOf (wordAt words r t) (wordAt words (r + 1) t)
 abbrev pub Row : List ℕ → (ℕ → ℕ) → ℕ → Type 0
 Row row value size = (row ≡ tab 32 value) × ((t : ℕ) → t < 32 → getD row t 0 < 2 ^ size)
 
--- no value has more bits than its source
+-- ---- rows that stand where an earlier step's stood
+
+-- the row of a source; where there is nothing to read, what stood there
+abbrev pub rowOver : Tables → List ℕ → Input → List ℕ → List ℕ
+rowOver tables registers Input.Nothing row = row
+rowOver tables registers (Input.Operand a) row = tab 32 (valueOf tables registers (Input.Operand a))
+rowOver tables registers (Input.Special k) row = tab 32 (valueOf tables registers (Input.Special k))
+
+-- no value that was read has more bits than its source
+abbrev pub Narrow : Input → List ℕ → Type 0
+Narrow x row = (x ≡ Input.Nothing → ⊥) → (t : ℕ) → t < 32 → getD row t 0 < 2 ^ inputSize x
+
+abbrev pub RowOver : Input → Tables → List ℕ → List ℕ → List ℕ → Type 0
+RowOver x tables registers before after = (after ≡ rowOver tables registers x before) × Narrow x after
+
+-- the rows of three sources
+unfoldable pub gatherOver : Tables → List ℕ → Input → Input → Input → List (List ℕ) → List (List ℕ)
+gatherOver tables registers a b c rows =
+    rowOver tables registers a (getD rows 0 []) ∷ rowOver tables registers b (getD rows 1 []) ∷ rowOver tables registers c (getD rows 2 []) ∷ []
+
 pub record Bounded (sources : List (List ℕ)) (x y z : Input) : Type 0 where
-  pub a : (t : ℕ) → t < 32 → sourceAt sources 0 t < 2 ^ inputSize x
-  pub b : (t : ℕ) → t < 32 → sourceAt sources 1 t < 2 ^ inputSize y
-  pub c : (t : ℕ) → t < 32 → sourceAt sources 2 t < 2 ^ inputSize z
+  pub a : Narrow x (getD sources 0 [])
+  pub b : Narrow y (getD sources 1 [])
+  pub c : Narrow z (getD sources 2 [])

@@ -2,11 +2,10 @@
 // compiler sees that what it reads is not what it writes.
 ghost use mathlib.Core.Path.{_≡_};
 ghost use Prim.Native.Nat.{ℕ, _+_, _*_, _/_, _≤_, _<_};
-ghost use lib.ListN.{length, getD, replicate};
+ghost use lib.ListN.{length, getD};
 ghost use Rattle.machine.specs.Lanes.{tab};
-ghost use Rattle.machine.specs.Words.{halfOf, pairOf, wordAt, sourceValue, valueOf, sourceSize, inputSize, sourceReach};
-ghost use Rattle.machine.specs.Step.{gatherOf};
-ghost use Rattle.lanes.specs.Sources.{Row, Bounded, Reached, halfAt, pairAt, lent};
+ghost use Rattle.machine.specs.Words.{halfOf, pairOf, wordAt, sourceValue, sourceSize, sourceReach};
+ghost use Rattle.lanes.specs.Sources.{Row, RowOver, Bounded, Reached, halfAt, pairAt, lent, gatherOver};
 use isa::operand::Source;
 use machine::input::Input;
 
@@ -59,14 +58,9 @@ fn pairs(file: &[u32], r: usize, row: &mut [u64; 32])
 // ---- a row of what all threads have alike
 
 fn fill(v: u64, row: &mut [u64; 32])
-    requires { ⌜ length (now row) ≡ 32 ⌝ }
     ensures { λ _. ⌜ now (row .exit) ≡ tab 32 (λ (t : ℕ). v) ⌝ }
 {
-    let mut t = 0;
-    while t < 32 {
-        row[t] = v;
-        t += 1;
-    }
+    *row = [v; 32];
 }
 
 // A uniform that is not lent is 0.
@@ -93,7 +87,7 @@ fn uniform_pair(uniforms: &[u32], r: u8) -> u64
 // ---- a row for each source
 
 fn source(registers: &[u32], uniforms: &[u32], s: Source, row: &mut [u64; 32])
-    requires { ⌜ (length (now row) ≡ 32) × (32 * sourceReach s ≤ length (now registers)) ⌝ }
+    requires { ⌜ 32 * sourceReach s ≤ length (now registers) ⌝ }
     ensures { λ _. ⌜ Row (now (row .exit)) (sourceValue (now (registers .entry)) (now (uniforms .entry)) s) (sourceSize s) ⌝ }
 {
     match s {
@@ -107,10 +101,10 @@ fn source(registers: &[u32], uniforms: &[u32], s: Source, row: &mut [u64; 32])
     }
 }
 
+// Where there is nothing to read, the row stays as it was: no operation looks at it.
 fn input(registers: &[u32], uniforms: &[u32], specials: &[u32], x: Input, row: &mut [u64; 32])
-    requires { ⌜ (now row ≡ replicate 32 0) × Reached x (now registers) (now specials) ⌝ }
-    ensures { λ _. ⌜ Row (now (row .exit))
-        (valueOf (lent (now (uniforms .entry)) (now (specials .entry))) (now (registers .entry)) x) (inputSize x) ⌝ }
+    requires { ⌜ Reached x (now registers) (now specials) ⌝ }
+    ensures { λ _. ⌜ RowOver x (lent (now (uniforms .entry)) (now (specials .entry))) (now (registers .entry)) (now (row .entry)) (now (row .exit)) ⌝ }
 {
     match x {
         Input::Nothing => {}
@@ -132,10 +126,10 @@ pub fn gather(
     c: Input,
     sources: &mut [[u64; 32]; 3],
 )
-    requires { ⌜ (now sources ≡ replicate 3 (replicate 32 0)) × Reached a (now registers) (now specials)
+    requires { ⌜ (length (now sources) ≡ 3) × Reached a (now registers) (now specials)
         × Reached b (now registers) (now specials) × Reached c (now registers) (now specials) ⌝ }
     ensures { λ _. ⌜ (now (sources .exit)
-        ≡ gatherOf (lent (now (uniforms .entry)) (now (specials .entry))) (now (registers .entry)) a b c)
+        ≡ gatherOver (lent (now (uniforms .entry)) (now (specials .entry))) (now (registers .entry)) a b c (now (sources .entry)))
         × Bounded (now (sources .exit)) a b c ⌝ }
 {
     input(registers, uniforms, specials, a, &mut sources[0]);

@@ -14,17 +14,17 @@ use Rattle.lanes.proofs.sources.source.Tie as tie
 
 halves-requires : tie.Need-halves-requires
 halves-requires c κs =
-    rw (c .before .before .s .given .1) at (c .before .before .before .before .before .before .pre .1)
+    rw (c .before .before .s .given .1) at (c .before .before .before .before .before .before .pre)
 
 words-requires : tie.Need-words-requires
 words-requires c κs =
     rw (c .before .index .ensures)
-    (rw (c .before .before .before .s2 .given .1) at (c .before .before .before .before .before .before .before .pre .1))
+    (rw (c .before .before .before .s2 .given .1) at (c .before .before .before .before .before .before .before .pre))
 
 pairs-requires : tie.Need-pairs-requires
 pairs-requires c κs =
     rw (c .before .index2 .ensures)
-    (rw (c .before .before .before .s3 .given .1) at (c .before .before .before .before .before .before .before .pre .1))
+    (rw (c .before .before .before .s3 .given .1) at (c .before .before .before .before .before .before .before .pre))
 
 returns : tie.Need-returns
 unfolding sourceValue
