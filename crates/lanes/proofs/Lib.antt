@@ -1,4 +1,3 @@
-pub mod Rows
 pub mod Halves
 pub mod Bounds
 pub mod Stores

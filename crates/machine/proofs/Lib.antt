@@ -1,4 +1,5 @@
 pub mod Tab
+pub mod Rows
 pub mod Masks
 pub mod Steps
 pub mod Sizes

@@ -1,4 +1,6 @@
 // A run: the 32 threads step in lockstep until the code is at its end, the budget is used up, or an instruction is refused.
+ghost use mathlib.Core.Path.{_≡_};
+ghost use Prim.Native.Nat.{_/_, _%_};
 ghost use Rattle.run.specs.Ran.{Ran, callOf};
 
 use isa::answer::Refusal;
@@ -6,7 +8,17 @@ use machine::answer::Answer;
 use machine::answer::Ending;
 use step::Turn;
 
-// Lengths, budget and start are looked at before anything is written. Uniforms and special registers are only read.
+const SLOTS: usize = 256;
+
+// The slot of an address. Instructions have four bytes at least, so those of 1,024 bytes in a row have different slots.
+fn slot_of(address: usize) -> usize
+    ensures { λ r. ⌜ r ≡ address / 4 % 256 ⌝ }
+{
+    address / 4 % SLOTS
+}
+
+// Lengths, budget and start are looked at before anything is written. Uniforms and special registers are only read. The cache holds plans,
+// each under the slot of its address; where another address is the slot's, its plan takes the place.
 pub fn run(code: &[u8], registers: &mut [u32], uniforms: &[u32], specials: &[u32], start: usize, mask: u32, budget: usize, records: &mut [u8]) -> Answer
     ensures { λ r. ⌜ Ran (callOf (now (code .entry)) (now (registers .entry)) (now (uniforms .entry)) (now (specials .entry)) start mask budget (now (records .entry)))
         r (now (registers .exit)) (now (records .exit)) ⌝ }
@@ -14,6 +26,14 @@ pub fn run(code: &[u8], registers: &mut [u32], uniforms: &[u32], specials: &[u32
     if !sizes::arranged(code.len(), registers.len(), uniforms.len(), specials.len(), start, budget, records.len()) {
         return Answer { ending: Ending::Refused(Refusal::BadSize), steps: 0, address: start, mask };
     }
+    if start == code.len() {
+        return Answer { ending: Ending::Finished, steps: 0, address: start, mask };
+    }
+    let zero = [0u64; 32];
+    let mut sources = [zero; 3];
+    let mut values = zero;
+    let first = plan::past_end(code);
+    let mut cache = [first; SLOTS];
     let mut address = start;
     let mut active = mask;
     let mut steps = 0;
@@ -21,7 +41,13 @@ pub fn run(code: &[u8], registers: &mut [u32], uniforms: &[u32], specials: &[u32
         if steps == budget {
             return Answer { ending: Ending::Spent, steps, address, mask: active };
         }
-        match step::step(code, registers, uniforms, specials, address, active) {
+        let k = slot_of(address);
+        let known = cache[k];
+        if known.address != address {
+            cache[k] = plan::at(code, address);
+        }
+        let p = cache[k];
+        match step::step(p, code, registers, uniforms, specials, active, &mut sources, &mut values) {
             Turn::Stops(r) => {
                 return Answer { ending: Ending::Refused(r), steps, address, mask: active };
             }

@@ -7,17 +7,14 @@ ghost use Rattle.machine.specs.Meaning as meaning;
 ghost use Rattle.operations.specs.Operation.{Sized};
 ghost use Rattle.signs.specs.Signed.{signedOf};
 
-// x, sign-extended from its bit size where signed is 1, modulo 2^64.
+// x, sign-extended from its bit size where signed is 1, modulo 2^64. Both cases run the same arithmetic, so that a loop over the threads
+// becomes vector instructions.
 pub fn extend(x: u64, signed: u8, size: u8) -> u64
     requires { ⌜ Sized size ⌝ }
     ensures { λ r. ⌜ r ≡ modulo (meaning.extended signed size x) 64 ⌝ }
 {
-    if signed == 1 {
-        let top = 1u64 << (size - 1);
-        std::num::wrapping_sub_u64(x ^ top, top)
-    } else {
-        x
-    }
+    let top = if signed == 1 { 1u64 << (size - 1) } else { 0 };
+    std::num::wrapping_sub_u64(x ^ top, top)
 }
 
 // A shift to the right by any amount.

@@ -1,5 +1,6 @@
--- What the code tells of a step: all of it but the instruction, which is the definition's.
-use Prim.Native.Nat.{ℕ, _*_}
+-- What the code tells of a step: all of it but the instruction, which is the definition's; and what it leaves in the rows it worked in.
+use Prim.Native.Nat.{ℕ, _*_, _^_, _<_}
+use mathlib.Core.Path.{_≡_}
 use mathlib.Core.Bool.{cond}
 use mathlib.Core.List.{List}
 use lib.Dec.{leb}
@@ -10,6 +11,9 @@ use Rattle.machine.specs.Words.{Tables}
 use Rattle.machine.specs.Meaning.{Meaning}
 use Rattle.machine.specs.State.{Threads, State, threadsAt, stateAt}
 use Rattle.machine.specs.Step.{Going, to, nowhere, Stepped, accepted, refused, registersReach, specialsReach, goingOf, threadsAfter}
+use Rattle.operations.specs.Action.{meaningBy, FittingBy}
+use Rattle.effect.specs.Rows.{Rows, rowsAfter}
+use Rattle.plan.specs.declared.Plan.{Plan}
 use Rattle.step.specs.declared.Turn.{Turn}
 
 -- the length of the instruction, the class and the state after an accepted step; of a refused one the registers, as they were
@@ -38,3 +42,18 @@ takenBy m bytes size tables s =
     (goneTo (goingOf m size bytes (s .address) (s .threads .mask)) bytes (threadsAfter m tables (s .threads)) registers)
     (stops (refusal 6) registers))
     (stops (refusal 5) registers)
+
+-- ---- plans
+
+-- a plan whose action can be taken
+pub record Ready (p : Plan) : Type 0 where
+  pub fitting : FittingBy (p .action)
+  pub registers : p .registers ≡ registersReach (meaningBy (p .action))
+  pub specials : p .specials ≡ specialsReach (meaningBy (p .action))
+  pub address : p .address < 2 ^ 32
+  pub bytes : p .bytes < 2 ^ 32
+
+-- a refused step leaves the rows as they were
+abbrev pub rowsLeft : Turn → Plan → Tables → List ℕ → Rows → Rows
+rowsLeft (Turn.Goes address mask bytes class) p tables registers r = rowsAfter (p .action) tables registers r
+rowsLeft (Turn.Stops refusal) p tables registers r = r

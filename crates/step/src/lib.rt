@@ -4,14 +4,16 @@ ghost use Prim.Native.Nat.{_≤_, _<_, _^_};
 ghost use lib.ListN.{length};
 ghost use Rattle.machine.specs.Step.{stepOf};
 ghost use Rattle.machine.specs.State.{threadsAt, stateAt};
-ghost use Rattle.operations.specs.Action.{meaningBy, FittingBy};
+ghost use Rattle.operations.specs.Action.{meaningBy};
 ghost use Rattle.lanes.specs.Sources.{lent};
-ghost use Rattle.step.specs.Told.{told, toldBy, takenBy};
+ghost use Rattle.effect.specs.Rows.{rows, Fit};
+ghost use Rattle.plan.specs.Plan.{PlanOf};
+ghost use Rattle.step.specs.Told.{told, toldBy, takenBy, rowsLeft, Ready};
 
-use operations::action::Action;
-use jumps::Going;
-use isa::answer::Decoded;
 use isa::answer::Refusal;
+use jumps::Going;
+use plan::Plan;
+use plan::Verdict;
 
 // What a step comes to: the address, the mask and, for its record, the length of the instruction and the class; or the refusal.
 pub enum Turn {
@@ -24,39 +26,48 @@ pub enum Turn {
     Stops(Refusal),
 }
 
-// The action of an instruction of so many bytes, in code of some length.
-fn take(action: Action, bytes: usize, size: usize, registers: &mut [u32], uniforms: &[u32], specials: &[u32], address: usize, mask: u32) -> Turn
-    requires { ⌜ FittingBy action × (address < 2 ^ 32) × (bytes < 2 ^ 32) ⌝ }
-    ensures { λ r. ⌜ told r (now (registers .exit))
-        ≡ takenBy (meaningBy action) bytes size (lent (now (uniforms .entry)) (now (specials .entry))) (stateAt (threadsAt (now (registers .entry)) mask) address) ⌝ }
+fn wide(x: u16) -> usize
+    ensures { λ r. ⌜ r ≡ x ⌝ }
 {
-    if registers.len() / 32 < going::registers_reach(action) {
+    x as usize
+}
+
+// The action of a plan, in code of some length.
+fn take(p: Plan, size: usize, registers: &mut [u32], uniforms: &[u32], specials: &[u32], mask: u32, sources: &mut [[u64; 32]; 3], values: &mut [u64; 32]) -> Turn
+    requires { ⌜ Ready p × Fit (rows (now sources) (now values)) ⌝ }
+    ensures { λ r. ⌜ (told r (now (registers .exit))
+        ≡ takenBy (meaningBy (p .action)) (p .bytes) size (lent (now (uniforms .entry)) (now (specials .entry))) (stateAt (threadsAt (now (registers .entry)) mask) (p .address)))
+        × (rows (now (sources .exit)) (now (values .exit))
+        ≡ rowsLeft r p (lent (now (uniforms .entry)) (now (specials .entry))) (now (registers .entry)) (rows (now (sources .entry)) (now (values .entry)))) ⌝ }
+{
+    if registers.len() / 32 < wide(p.registers) {
         return Turn::Stops(Refusal::NoRegister);
     }
-    if specials.len() / 32 < going::specials_reach(action) {
+    if specials.len() / 32 < wide(p.specials) {
         return Turn::Stops(Refusal::NoSpecial);
     }
-    match going::goes_to(action, size, bytes, address, mask) {
+    let action = p.action;
+    match going::goes_to(action, size, p.bytes, p.address, mask) {
         Going::Nowhere(r) => Turn::Stops(r),
         Going::To(next, class) => {
-            let after = effect::act(action, registers, uniforms, specials, mask);
-            Turn::Goes { address: next, mask: after, bytes, class }
+            let after = effect::act(action, registers, uniforms, specials, mask, sources, values);
+            Turn::Goes { address: next, mask: after, bytes: p.bytes, class }
         }
     }
 }
 
-// The instruction at an address.
-pub fn step(code: &[u8], registers: &mut [u32], uniforms: &[u32], specials: &[u32], address: usize, mask: u32) -> Turn
-    requires { ⌜ (address ≤ length (now code)) × (length (now code) < 2 ^ 32) ⌝ }
-    ensures { λ r. ⌜ told r (now (registers .exit))
-        ≡ toldBy (stepOf (now (code .entry)) (lent (now (uniforms .entry)) (now (specials .entry))) (stateAt (threadsAt (now (registers .entry)) mask) address))
-          (now (registers .entry)) ⌝ }
+// The step at the address of a plan.
+pub fn step(p: Plan, code: &[u8], registers: &mut [u32], uniforms: &[u32], specials: &[u32], mask: u32, sources: &mut [[u64; 32]; 3], values: &mut [u64; 32]) -> Turn
+    requires { ⌜ PlanOf (now code) p × (p .address ≤ length (now code)) × (length (now code) < 2 ^ 32) × Fit (rows (now sources) (now values)) ⌝ }
+    ensures { λ r. ⌜ (told r (now (registers .exit))
+        ≡ toldBy (stepOf (now (code .entry)) (lent (now (uniforms .entry)) (now (specials .entry))) (stateAt (threadsAt (now (registers .entry)) mask) (p .address)))
+          (now (registers .entry)))
+        × (rows (now (sources .exit)) (now (values .exit))
+        ≡ rowsLeft r p (lent (now (uniforms .entry)) (now (specials .entry))) (now (registers .entry)) (rows (now (sources .entry)) (now (values .entry)))) ⌝ }
 {
-    match decode::decode(&code[address..]) {
-        Decoded::Refused(r) => Turn::Stops(r),
-        Decoded::Found(i, bytes) => {
-            let action = action::action_of(i);
-            take(action, bytes, code.len(), registers, uniforms, specials, address, mask)
-        }
+    let verdict = p.verdict;
+    match verdict {
+        Verdict::Refused(r) => Turn::Stops(r),
+        Verdict::Acts => take(p, code.len(), registers, uniforms, specials, mask, sources, values),
     }
 }

@@ -1,27 +1,25 @@
 -- The row holds the halves of the threads passed.
-use Prim.Native.Nat.{ℕ, _+_, _-_, _*_, _/_, _%_, _^_, _≤_}
-use mathlib.Core.Path.{_≡_, refl, _∙_}
+use Prim.Native.Nat.{ℕ, _+_, _-_, _*_, _/_, _%_, _^_}
+use mathlib.Core.Path.{refl, _∙_}
 use native.Mathlib.Omega.{arith}
 use borrow.Author.Needs.{needs}
 use denote.Ref.{now}
 use lib.Dec.{eqb}
-use lib.ListN.{getD, replicate}
-use Rattle.machine.proofs.Tab.{filled, filled-none}
+use lib.ListN.{getD}
+use Rattle.machine.proofs.Rows.{Filling, starts, goes-on, ends}
 use Rattle.lanes.specs.Sources.{halfAt}
 use Rattle.lanes.proofs.Halves.{place-lt, half-part}
-use Rattle.lanes.proofs.Rows.{row-next, row-done}
 use Rattle.lanes.proofs.sources.halves.Statement.{statement}
 use Rattle.lanes.proofs.sources.halves.Tie as tie
 
 abbrev Inv-loop : tie.InvT-loop
-Inv-loop file h row base place out₀ t₀ out t =
-    (t ≤ 32) × (out ≡ filled (halfAt file h) t out₀)
+Inv-loop file h row base place out₀ t₀ out t = Filling (halfAt file h) out₀ out t
 
 abbrev μ-loop : tie.MeasureT-loop
 μ-loop file h row base place out₀ t₀ out t = 32 - t
 
 loop-holds : tie.Need-loop-holds Inv-loop μ-loop
-loop-holds c = (omega arith, filled-none _ _)
+loop-holds c = starts refl
 
 part-requires : tie.Need-part-requires Inv-loop μ-loop
 part-requires c κs =
@@ -35,20 +33,14 @@ loop-again c =
     let word : ℕ → ℕ = λ r. getD (now (a .file)) (32 * r + l .t) 0 in
     let place = c .before .before .before .before .place .ensures in
     let r = c .before .before .before .before .before .index .ensures in
-    let known = c .before .before .before .before .before .before .shared-slice-known .given in (
-      omega arith,
-      row-next (halfAt (now (a .file)) (a .h)) (l .t) (l .out) (replicate 32 0) (l .inv .1) refl (c .part .result)
-          (c .before .before .loop-test .taken)
-          (c .part .ensures
-          ∙ (λ i. word (r i) / 2 ^ place i % 2 ^ 16)
-          ∙ half-part (a .h) (word (a .h / 2)) (known (32 * (a .h / 2) + l .t) .fits)),
-    )
+    let known = c .before .before .before .before .before .before .shared-slice-known .given in
+    goes-on (l .inv) (omega arith)
+    (c .part .ensures
+    ∙ (λ i. word (r i) / 2 ^ place i % 2 ^ 16)
+    ∙ half-part (a .h) (word (a .h / 2)) (known (32 * (a .h / 2) + l .t) .fits))
 
 returns : tie.Need-returns Inv-loop μ-loop
-returns c =
-    let l = c .before .loop in
-    let a = c .before .before .before .before .before .args in
-    row-done (halfAt (now (a .file)) (a .h)) (l .t) (l .out) (replicate 32 0) (l .inv .1) refl (l .inv .0) (c .loop-test .left)
+returns c = ends (c .before .loop .inv) (omega arith)
 
 pub halves-spec : {M : Type 1} → statement M
 halves-spec =

@@ -1,44 +1,36 @@
 -- The row holds the pairs of the threads passed.
-use Prim.Native.Nat.{ℕ, _+_, _-_, _*_, _≤_}
+use Prim.Native.Nat.{ℕ, _+_, _-_, _*_}
 use mathlib.Core.Path.{_≡_, refl, ap, _∙_}
 use native.Mathlib.Omega.{arith}
 use borrow.Author.Needs.{needs}
 use denote.Ref.{now}
-use lib.ListN.{getD, replicate}
+use lib.ListN.{getD}
 use Rattle.machine.specs.Words.{pairOf}
-use Rattle.machine.proofs.Tab.{filled, filled-none}
+use Rattle.machine.proofs.Rows.{Filling, starts, goes-on, ends}
 use Rattle.lanes.specs.Sources.{pairAt}
-use Rattle.lanes.proofs.Rows.{row-next, row-done}
 use Rattle.lanes.proofs.sources.pairs.Statement.{statement}
 use Rattle.lanes.proofs.sources.pairs.Tie as tie
 
 abbrev Inv-loop : tie.InvT-loop
-Inv-loop file r row base next out₀ t₀ out t =
-    (t ≤ 32) × (out ≡ filled (pairAt file r) t out₀)
+Inv-loop file r row base next out₀ t₀ out t = Filling (pairAt file r) out₀ out t
 
 abbrev μ-loop : tie.MeasureT-loop
 μ-loop file r row base next out₀ t₀ out t = 32 - t
 
 loop-holds : tie.Need-loop-holds Inv-loop μ-loop
-loop-holds c = (omega arith, filled-none _ _)
+loop-holds c = starts refl
 
 loop-again : tie.Need-loop-again Inv-loop μ-loop
 loop-again c =
     let l = c .before .before .before .before .loop in
     let a = c .before .before .before .before .before .before .args in
     let file = now (a .file) in
-    let second : 32 * a .r + 32 + l .t ≡ 32 * (a .r + 1) + l .t = omega arith in (
-      omega arith,
-      row-next (pairAt file (a .r)) (l .t) (l .out) (replicate 32 0) (l .inv .1) refl (c .pair .result)
-          (c .before .before .before .loop-test .taken)
-          (c .pair .ensures ∙ ap (λ (i : ℕ). pairOf (getD file (32 * a .r + l .t) 0) (getD file i 0)) second),
-    )
+    let second : 32 * a .r + 32 + l .t ≡ 32 * (a .r + 1) + l .t = omega arith in
+    goes-on (l .inv) (omega arith)
+    (c .pair .ensures ∙ ap (λ (i : ℕ). pairOf (getD file (32 * a .r + l .t) 0) (getD file i 0)) second)
 
 returns : tie.Need-returns Inv-loop μ-loop
-returns c =
-    let l = c .before .loop in
-    let a = c .before .before .before .args in
-    row-done (pairAt (now (a .file)) (a .r)) (l .t) (l .out) (replicate 32 0) (l .inv .1) refl (l .inv .0) (c .loop-test .left)
+returns c = ends (c .before .loop .inv) (omega arith)
 
 pub pairs-spec : {M : Type 1} → statement M
 pairs-spec =
