@@ -1,24 +1,27 @@
 -- The cases of a step.
-use mathlib.Core.Path.{_≡_, refl, ap, _∙_}
+use mathlib.Core.Path.{_≡_, refl, ap, ap₂, _∙_}
 use mathlib.Core.Bool.{Bool, true, false, cond}
 use mathlib.Core.List.{List}
-use Prim.Native.Nat.{ℕ, _*_, _-_, _/_, _≤_, _<_}
+use Prim.Native.Nat.{ℕ, _*_, _/_, _^_, _≤_, _<_}
 use native.Mathlib.Omega.{arith}
 use lib.Dec.{leb}
-use native.Mathlib.Nat.{le-of-eq}
-use lib.ListN.{length, take, drop, length-drop}
-use lib.Seq.{take-all}
+use lib.ListN.{length, drop}
 use borrow.Author.Tests.{le-leb, lt-leb}
 use Rattle.isa.specs.Decode.{decodeOf}
 use Rattle.isa.specs.Refusal.{refusal}
+use Rattle.isa.proofs.Found.{found-length}
 use Rattle.isa.specs.declared.answer.Refusal.{Refusal}
 use Rattle.isa.specs.declared.answer.Decoded.{Decoded}
 use Rattle.isa.specs.declared.instruction.Instruction.{Instruction}
 use Rattle.machine.specs.Words.{Tables}
 use Rattle.machine.specs.Meaning.{Meaning, meaningOf}
-use Rattle.machine.specs.State.{State}
+use Rattle.machine.specs.State.{Threads, State, stateAt}
 use Rattle.machine.specs.Step.{Going, to, nowhere, refused, registersReach, specialsReach, goingOf, goTo, threadsAfter, stepBy, stepOf}
-use Rattle.step.specs.Told.{Told, stops, toldBy, goneTo, takenBy}
+use Rattle.operations.specs.Action.{meaningBy}
+use Rattle.plan.specs.Plan.{Says, PlanOf}
+use Rattle.plan.specs.declared.Plan.{Plan}
+use Rattle.plan.specs.declared.Verdict.{Verdict}
+use Rattle.step.specs.Told.{stops, toldBy, goneTo, takenBy, Ready}
 
 module _ (m : Meaning) (bytes size : ℕ) (tables : Tables) (s : State) where
   pub no-register : length (s .threads .registers) / 32 < registersReach m
@@ -71,14 +74,52 @@ module _ (size : ℕ) (tables : Tables) (s : State) where
   unfolding stepBy
   refused-by r = refl
 
--- the code from an address on, as the step lends it
-pub rest : (code : List ℕ) (address : ℕ) → take (length code - address) (drop address code) ≡ drop address code
-rest code address = take-all (length code - address) (drop address code) (le-of-eq (length-drop address code))
+-- ---- the step of a plan
 
--- the decoded instruction at the address
-pub at-address : (code : List ℕ) (tables : Tables) (s : State) (d : Decoded) (t : Told)
-    → d ≡ decodeOf (take (length code - s .address) (drop (s .address) code))
-    → t ≡ toldBy (stepBy d (length code) tables s) (s .threads .registers) → t ≡ toldBy (stepOf code tables s) (s .threads .registers)
-unfolding stepOf
-at-address code tables s d t e h =
-    h ∙ ap (λ (x : Decoded). toldBy (stepBy x (length code) tables s) (s .threads .registers)) (e ∙ ap decodeOf (rest code (s .address)))
+module _ (code : List ℕ) (tables : Tables) (threads : Threads) (p : Plan) (q : PlanOf code p) where
+  abbrev here : State
+  here = stateAt threads (p .address)
+
+  abbrev decodedHere : Decoded
+  decodedHere = decodeOf (drop (p .address) code)
+
+  pub plan-refused : (r : Refusal) → p .verdict ≡ Verdict.Refused r
+      → stops r (threads .registers) ≡ toldBy (stepOf code tables here) (threads .registers)
+  unfolding stepOf
+  plan-refused r e = go decodedHere q
+    where
+      go : (d : Decoded) → Says d p → stops r (threads .registers) ≡ toldBy (stepBy d (length code) tables here) (threads .registers)
+      go (Decoded.Refused r′) w =
+          let same : r ≡ r′ = cc in
+          ap (λ (x : Refusal). stops x (threads .registers)) same ∙ refused-by (length code) tables here r′
+      go (Decoded.Found i n) w =
+          let v = ap (λ (x : Plan). x .verdict) (w .is) in
+          let z : _≡_ {A = ℕ} 0 1 = cc in absurd (omega arith)
+
+  pub plan-taken : p .verdict ≡ Verdict.Acts
+      → takenBy (meaningBy (p .action)) (p .bytes) (length code) tables here ≡ toldBy (stepOf code tables here) (threads .registers)
+  unfolding stepOf
+  plan-taken e = go decodedHere q
+    where
+      go : (d : Decoded) → Says d p
+          → takenBy (meaningBy (p .action)) (p .bytes) (length code) tables here ≡ toldBy (stepBy d (length code) tables here) (threads .registers)
+      go (Decoded.Refused r) w = let z : _≡_ {A = ℕ} 0 1 = cc in absurd (omega arith)
+      go (Decoded.Found i n) w =
+          ap₂ (λ (m : Meaning) (bytes : ℕ). takenBy m bytes (length code) tables here) (w .acts .meaning) (ap (λ (x : Plan). x .bytes) (w .is))
+          ∙ found (length code) tables here i n
+
+  pub plan-ready : p .verdict ≡ Verdict.Acts → p .address < 2 ^ 32 → Ready p
+  plan-ready e h = go decodedHere refl q
+    where
+      go : (d : Decoded) → decodedHere ≡ d → Says d p → Ready p
+      go (Decoded.Refused r) x w = let z : _≡_ {A = ℕ} 0 1 = cc in absurd (omega arith)
+      go (Decoded.Found i n) x w =
+          let b : p .bytes ≡ n = ap (λ (x : Plan). x .bytes) (w .is) in
+          let l = found-length (drop (p .address) code) i n x in
+          record {
+            fitting = w .acts .fitting;
+            registers = ap (λ (x : Plan). x .registers) (w .is);
+            specials = ap (λ (x : Plan). x .specials) (w .is);
+            address = h;
+            bytes = omega (arith, l .1);
+          }

@@ -1,5 +1,5 @@
 use borrow.Author.Needs.{needs}
-use mathlib.Core.Path.{sym, ap, _∙_}
+use mathlib.Core.Path.{refl, sym, ap, _∙_}
 use Prim.Native.Nat.{_/_, _≤_, _<_}
 use native.Mathlib.Omega.{arith}
 use lib.ListN.{length}
@@ -16,44 +16,67 @@ use Rattle.step.proofs.take.Tie as tie
 
 returns : tie.Need-returns
 returns c =
-    let a = c .before .before .before .before .before .args in
-    let s = stateAt (threadsAt (now (a .registers)) (a .mask)) (a .address) in
+    let start = c .before .before .before .before .before in
+    let a = start .args in
+    let ready = start .pre .0 in
+    let m = meaningBy (a .p .action) in
+    let s = stateAt (threadsAt (now (a .registers)) (a .mask)) (a .p .address) in
     let tables = lent (now (a .uniforms)) (now (a .specials)) in
-    let h : length (now (a .registers)) / 32 < registersReach (meaningBy (a .action)) = omega (arith, c .before .registers-reach .ensures) in
-    no-register (meaningBy (a .action)) (a .bytes) (a .size) tables s h
+    let h : length (now (a .registers)) / 32 < registersReach m = omega (arith, c .before .wide .ensures, ready .registers) in
+    (no-register m (a .p .bytes) (a .size) tables s h, refl)
 
 returns-2 : tie.Need-returns-2
 returns-2 c =
-    let a = c .before .before .before .before .before .before .before .args in
-    let s = stateAt (threadsAt (now (a .registers)) (a .mask)) (a .address) in
+    let start = c .before .before .before .before .before .before .before in
+    let a = start .args in
+    let ready = start .pre .0 in
+    let m = meaningBy (a .p .action) in
+    let s = stateAt (threadsAt (now (a .registers)) (a .mask)) (a .p .address) in
     let tables = lent (now (a .uniforms)) (now (a .specials)) in
-    let h : registersReach (meaningBy (a .action)) ≤ length (now (a .registers)) / 32 = omega (arith, c .before .before .before .registers-reach .ensures) in
-    let k : length (now (a .specials)) / 32 < specialsReach (meaningBy (a .action)) = omega (arith, c .before .specials-reach .ensures) in
-    no-special (meaningBy (a .action)) (a .bytes) (a .size) tables s h k
+    let h : registersReach m ≤ length (now (a .registers)) / 32 = omega (arith, c .before .before .before .wide .ensures, ready .registers) in
+    let k : length (now (a .specials)) / 32 < specialsReach m = omega (arith, c .before .wide2 .ensures, ready .specials) in
+    (no-special m (a .p .bytes) (a .size) tables s h k, refl)
+
+act-requires : tie.Need-act-requires
+act-requires c κs =
+    let start = c .before .before .before .before .before .before .before .before .before .before .before .before .before .before .before in
+    let ready = start .pre .0 in
+    (ready .fitting,
+      omega (arith, c .before .before .before .before .before .before .before .before .before .before .before .wide .ensures, c .before .before .before .before .before .before .before .before .before .before .if1 .left, ready .registers),
+      omega (arith, c .before .before .before .before .before .before .before .before .before .wide2 .ensures, c .before .before .before .before .before .before .before .before .if2 .left, ready .specials),
+      start .pre .1)
 
 returns-3 : tie.Need-returns-3
 returns-3 c =
-    let a = c .before .before .before .before .before .before .before .before .before .before .before .args in
-    let s = stateAt (threadsAt (now (a .registers)) (a .mask)) (a .address) in
+    let start = c .before .before .before .before .before .before .before .before .before .before .before .before in
+    let a = start .args in
+    let ready = start .pre .0 in
+    let m = meaningBy (a .p .action) in
+    let s = stateAt (threadsAt (now (a .registers)) (a .mask)) (a .p .address) in
     let tables = lent (now (a .uniforms)) (now (a .specials)) in
-    let h : registersReach (meaningBy (a .action)) ≤ length (now (a .registers)) / 32 = omega (arith, c .before .before .before .before .before .before .before .registers-reach .ensures) in
-    let k : specialsReach (meaningBy (a .action)) ≤ length (now (a .specials)) / 32 = omega (arith, c .before .before .before .before .before .specials-reach .ensures) in
-    gone (meaningBy (a .action)) (a .bytes) (a .size) tables s h k _ (ap asGoing (sym (c .before .r .given .1)) ∙ c .before .before .before .goes-to .ensures)
+    let h : registersReach m ≤ length (now (a .registers)) / 32 = omega (arith, c .before .before .before .before .before .before .before .before .wide .ensures, ready .registers) in
+    let k : specialsReach m ≤ length (now (a .specials)) / 32 = omega (arith, c .before .before .before .before .before .before .wide2 .ensures, ready .specials) in
+    (gone m (a .p .bytes) (a .size) tables s h k _ (ap asGoing (sym (c .before .r .given .1)) ∙ c .before .before .before .goes-to .ensures), refl)
 
 returns-4 : tie.Need-returns-4
 returns-4 c =
-    let a = c .before .before .before .before .before .before .before .before .before .before .before .before .before .before .before .args in
-    let s = stateAt (threadsAt (now (a .registers)) (a .mask)) (a .address) in
+    let start = c .before .before .before .before .before .before .before .before .before .before .before .before .before .before .before .before .before .before in
+    let a = start .args in
+    let ready = start .pre .0 in
+    let m = meaningBy (a .p .action) in
+    let s = stateAt (threadsAt (now (a .registers)) (a .mask)) (a .p .address) in
     let tables = lent (now (a .uniforms)) (now (a .specials)) in
-    let h : registersReach (meaningBy (a .action)) ≤ length (now (a .registers)) / 32 = omega (arith, c .before .before .before .before .before .before .before .before .before .before .before .registers-reach .ensures) in
-    let k : specialsReach (meaningBy (a .action)) ≤ length (now (a .specials)) / 32 = omega (arith, c .before .before .before .before .before .before .before .before .before .specials-reach .ensures) in
-    let g = c .before .before .before .before .before .next .given in
-    ap (λ (t : Threads). goes (a .bytes) (g .0 .1 .0) (stateAt t (g .0 .0))) (c .before .before .act .ensures)
-    ∙ gone (meaningBy (a .action)) (a .bytes) (a .size) tables s h k _ (ap asGoing (sym (g .1)) ∙ c .before .before .before .before .before .before .before .goes-to .ensures)
+    let h : registersReach m ≤ length (now (a .registers)) / 32 = omega (arith, c .before .before .before .before .before .before .before .before .before .before .before .before .before .before .wide .ensures, c .before .before .before .before .before .before .before .before .before .before .before .before .before .if1 .left, ready .registers) in
+    let k : specialsReach m ≤ length (now (a .specials)) / 32 = omega (arith, c .before .before .before .before .before .before .before .before .before .before .before .before .wide2 .ensures, c .before .before .before .before .before .before .before .before .before .before .before .if2 .left, ready .specials) in
+    let g = c .before .before .before .before .before .before .before .next .given in
+    let e = c .before .before .act .ensures in
+    (ap (λ (t : Threads). goes (a .p .bytes) (g .0 .1 .0) (stateAt t (g .0 .0))) (e .0)
+      ∙ gone m (a .p .bytes) (a .size) tables s h k _ (ap asGoing (sym (g .1)) ∙ c .before .before .before .before .before .before .before .before .before .goes-to .ensures),
+      e .1)
 
 pub take-spec : {M : Type 1} → statement M
 take-spec =
     tie.close
     (tie.spec
     (λ c κs. search needs) returns (λ c κs. search needs) returns-2 (λ c κs. search needs) (λ c. search needs) (λ c. search needs)
-    (λ c κs. search needs) returns-3 (λ c. search needs) returns-4)
+    act-requires returns-3 (λ c. search needs) returns-4)
