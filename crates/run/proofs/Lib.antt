@@ -1,4 +1,5 @@
 pub mod Inside
 pub mod Left
 pub mod Promise
+pub mod Slots
 pub mod Turns

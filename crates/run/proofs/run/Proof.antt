@@ -1,21 +1,28 @@
--- Each turn is a step of the run: what is still to run leaves what the whole run leaves, and where the loop is left nothing is.
-use mathlib.Core.Path.{ap, _∙_}
+-- Each turn is a step of the run: what is still to run leaves what the whole run leaves, and where the loop is left nothing is. The cache
+-- holds plans of the code.
+use mathlib.Core.Path.{refl, ap, _∙_}
+use mathlib.Core.Logic.{inl, inr, ⊎-elim}
 use Prim.Native.Nat.{_-_}
 use native.Mathlib.Omega.{arith}
 use lib.ListN.{length}
 use borrow.Author.Needs.{needs}
+use denote.Ref.{now}
+use Rattle.effect.specs.Rows.{rows, Fit}
 use Rattle.run.specs.Ran.{callOf}
+use Rattle.run.specs.Cache.{Cached}
 use Rattle.run.proofs.Promise.{at-bad-size}
+use Rattle.run.proofs.Slots.{cached-first, looked, rows-kept}
 use Rattle.run.proofs.Turns.{OnWay, at-start, at-end, at-spent, at-refusal, at-step}
 use Rattle.run.proofs.run.Statement.{statement}
 use Rattle.run.proofs.run.Tie as tie
 
 abbrev Inv-loop : tie.InvT-loop
-Inv-loop code registers₀ uniforms specials start mask budget records₀ address₀ active₀ steps₀ registers records address active steps =
+Inv-loop code registers₀ uniforms specials start mask budget records₀ sources₀ values₀ cache₀ address₀ active₀ steps₀ registers records sources values cache address active steps =
     OnWay (callOf code registers₀ uniforms specials start mask budget records₀) registers records address active steps
+    × Cached code cache × Fit (rows sources values)
 
 abbrev μ-loop : tie.MeasureT-loop
-μ-loop code registers₀ uniforms specials start mask budget records₀ address₀ active₀ steps₀ registers records address active steps =
+μ-loop code registers₀ uniforms specials start mask budget records₀ sources₀ values₀ cache₀ address₀ active₀ steps₀ registers records sources values cache address active steps =
     budget - steps
 
 returns : tie.Need-returns Inv-loop μ-loop
@@ -23,63 +30,111 @@ returns c =
     let t = c .before .arranged in
     at-bad-size (omega arith) (t .result) (t .ensures) (c .if1 .taken)
 
+returns-2 : tie.Need-returns-2 Inv-loop μ-loop
+returns-2 c =
+    let t = c .before .before .arranged in
+    at-end (at-start (omega arith) (t .result) (t .ensures) (c .before .if1 .left)) (c .if2 .taken)
+
 loop-holds : tie.Need-loop-holds Inv-loop μ-loop
 loop-holds c =
-    let t = c .before .arranged in
-    at-start (omega arith) (t .result) (t .ensures) (c .if1 .left)
+    let t = c .before .before .before .arranged in
+    (at-start (omega arith) (t .result) (t .ensures) (c .before .before .if1 .left),
+      cached-first _ _ _ (c .past-end .ensures), record { three = refl; all = refl })
 
 same-length : tie.Need-same-length Inv-loop μ-loop
-same-length c = c .before .before .loop .inv .registersKept
+same-length c = c .before .before .loop .inv .0 .registersKept
 
 same-length-2 : tie.Need-same-length-2 Inv-loop μ-loop
-same-length-2 c = c .before .before .loop .inv .roomKept
-
-returns-2 : tie.Need-returns-2 Inv-loop μ-loop
-returns-2 c = at-spent (c .before .before .loop .inv) (c .before .loop-test .taken) (c .if2 .taken)
-
-same-length-3 : tie.Need-same-length-3 Inv-loop μ-loop
-same-length-3 c =
-    let s = c .before .before .before .before .before in
-    s .step .kept .1 .0 ∙ s .before .before .before .before .loop .inv .registersKept
-
-same-length-4 : tie.Need-same-length-4 Inv-loop μ-loop
-same-length-4 c = c .before .before .before .before .before .before .before .before .before .loop .inv .roomKept
+same-length-2 c = c .before .before .loop .inv .0 .roomKept
 
 returns-3 : tie.Need-returns-3 Inv-loop μ-loop
-returns-3 c =
+returns-3 c = at-spent (c .before .before .loop .inv .0) (c .before .loop-test .taken) (c .if3 .taken)
+
+at-requires : tie.Need-at-requires Inv-loop μ-loop
+at-requires c κs = c .before .before .before .before .before .before .loop .inv .0 .inside
+
+step-requires : tie.Need-step-requires Inv-loop μ-loop
+step-requires c κs =
+    let j = c .before .before .before .before .if4 in
+    let l = c .before .before .before .before .before .before .before .before .before .before .loop in
+    let a = c .before .before .before .before .before .before .before .before .before .before .before .before .before .before .before .before .before .before .before .before .args in
+    let k = c .before .before .before .before .before .before .before .slot-of in
+    let h = looked (now (a .code)) (l .cache) (j .cache) (k .result) (l .address) (l .inv .1) (omega (arith, k .ensures))
+          (⊎-elim (λ w. inl (w .1 .result, w .1 .ensures, w .2)) (λ w. inr (w .0 .left, w .1)) (j .came)) in
+    let size = l .inv .0 .code in
+    (h .is, rw (h .here) (l .inv .0 .inside), omega arith, l .inv .2)
+
+same-length-3 : tie.Need-same-length-3 Inv-loop μ-loop
+same-length-3 c = c .before .before .before .before .before .step .kept .1 .1 .0 ∙ c .before .before .before .before .before .before .before .before .before .before .before .before .before .before .before .before .loop .inv .0 .registersKept
+
+same-length-4 : tie.Need-same-length-4 Inv-loop μ-loop
+same-length-4 c = c .before .before .before .before .before .before .before .before .before .before .before .before .before .before .before .before .loop .inv .0 .roomKept
+
+returns-4 : tie.Need-returns-4 Inv-loop μ-loop
+returns-4 c =
+    let j = c .before .before .before .before .before .before .before .before .before .before .if4 in
+    let l = c .before .before .before .before .before .before .before .before .before .before .before .before .before .before .before .before .loop in
+    let a = c .before .before .before .before .before .before .before .before .before .before .before .before .before .before .before .before .before .before .before .before .before .before .before .before .before .before .args in
+    let k = c .before .before .before .before .before .before .before .before .before .before .before .before .before .slot-of in
+    let h = looked (now (a .code)) (l .cache) (j .cache) (k .result) (l .address) (l .inv .1) (omega (arith, k .ensures))
+          (⊎-elim (λ w. inl (w .1 .result, w .1 .ensures, w .2)) (λ w. inr (w .0 .left, w .1)) (j .came)) in
     let r = c .before .r .given in
-    let s = c .before .before .before .before .before in
-    let l = s .before .before in
-    at-refusal (l .before .before .loop .inv) (l .before .loop-test .taken) (l .if2 .left) (s .step .result) (s .step .last .1 .0)
-    (s .step .ensures) (r .0 .0) (r .1)
+    let s = c .before .before .before .before .before .step in
+    at-refusal (l .inv .0) (c .before .before .before .before .before .before .before .before .before .before .before .before .before .before .before .loop-test .taken) (c .before .before .before .before .before .before .before .before .before .before .before .before .before .before .if3 .left) (s .result) (s .last .1 .1 .0)
+    (rw (h .here) at (s .ensures .0)) (r .0 .0) (r .1)
 
 put-requires : tie.Need-put-requires Inv-loop μ-loop
-put-requires c κs = omega (arith, ap length (c .before .before .«record» .ensures))
+put-requires c κs =
+    let w = c .before .before .before .before .before .before .before .before .before .before .before .before .before .before .before .before .before .before .before .loop .inv .0 in
+    let left = c .before .before .before .before .before .before .before .before .before .before .before .before .before .before .before .before .before .if3 .left in
+    omega (arith, ap length (c .before .before .«record» .ensures))
+
+mul-put : tie.Need-mul-put Inv-loop μ-loop
+mul-put c = let w = c .before .before .before .before .before .before .before .before .before .before .before .before .before .before .before .before .before .before .loop .inv .0 in omega arith
+
+add-steps : tie.Need-add-steps Inv-loop μ-loop
+add-steps c = let w = c .before .before .before .before .before .before .before .before .before .before .before .before .before .before .before .before .before .before .before .before .before .before .loop .inv .0 in omega arith
+
+loop-less : tie.Need-loop-less Inv-loop μ-loop
+loop-less c =
+    let w = c .before .before .before .before .before .before .before .before .before .before .before .before .before .before .before .before .before .before .before .before .before .before .loop .inv .0 in
+    let left = c .before .before .before .before .before .before .before .before .before .before .before .before .before .before .before .before .before .before .before .before .if3 .left in
+    omega arith
 
 loop-again : tie.Need-loop-again Inv-loop μ-loop
 loop-again c =
+    let j = c .before .before .before .before .before .before .before .before .before .before .before .before .before .before .before .before .if4 in
+    let l = c .before .before .before .before .before .before .before .before .before .before .before .before .before .before .before .before .before .before .before .before .before .before .loop in
+    let a = c .before .before .before .before .before .before .before .before .before .before .before .before .before .before .before .before .before .before .before .before .before .before .before .before .before .before .before .before .before .before .before .before .args in
+    let k = c .before .before .before .before .before .before .before .before .before .before .before .before .before .before .before .before .before .before .before .slot-of in
+    let h = looked (now (a .code)) (l .cache) (j .cache) (k .result) (l .address) (l .inv .1) (omega (arith, k .ensures))
+          (⊎-elim (λ w. inl (w .1 .result, w .1 .ensures, w .2)) (λ w. inr (w .0 .left, w .1)) (j .came)) in
     let p = c .before .before .put in
-    let m = c .before .before .before .before .before in
-    let n = m .before .before .next .given in
-    let s = m .before .before .before .before .before .before in
-    let l = s .before .before in
-    at-step (l .before .before .loop .inv) (l .before .loop-test .taken) (l .if2 .left) (s .step .result) (s .step .last .1 .0)
-    (s .step .ensures) (n .0 .0) (n .0 .1 .0) (n .0 .1 .1 .0) (n .0 .1 .1 .1 .0) (m .«record» .result) (p .last .0) (n .1)
-    (s .step .kept .1 .0) (m .«record» .ensures) (p .ensures)
+    let m = c .before .before .before .before .before .«record» in
+    let n = c .before .before .before .before .before .before .before .next .given in
+    let s = c .before .before .before .before .before .before .before .before .before .before .before .step in
+    (at-step (l .inv .0) (c .before .before .before .before .before .before .before .before .before .before .before .before .before .before .before .before .before .before .before .before .before .loop-test .taken) (c .before .before .before .before .before .before .before .before .before .before .before .before .before .before .before .before .before .before .before .before .if3 .left) (s .result) (s .last .1 .1 .0)
+      (rw (h .here) at (s .ensures .0)) (n .0 .0) (n .0 .1 .0) (n .0 .1 .1 .0) (n .0 .1 .1 .1 .0) (m .result) (p .last .0) (n .1)
+      (s .kept .1 .1 .0) (m .ensures) (p .ensures),
+      h .cached,
+      rows-kept (s .result) _ _ _ _ _ (s .ensures .1) (l .inv .2))
 
 same-length-5 : tie.Need-same-length-5 Inv-loop μ-loop
-same-length-5 c = c .before .loop .inv .registersKept
+same-length-5 c = c .before .loop .inv .0 .registersKept
 
 same-length-6 : tie.Need-same-length-6 Inv-loop μ-loop
-same-length-6 c = c .before .loop .inv .roomKept
+same-length-6 c = c .before .loop .inv .0 .roomKept
 
-returns-4 : tie.Need-returns-4 Inv-loop μ-loop
-returns-4 c = at-end (c .before .loop .inv) (c .loop-test .left)
+returns-5 : tie.Need-returns-5 Inv-loop μ-loop
+returns-5 c = at-end (c .before .loop .inv .0) (c .loop-test .left)
 
 pub run-spec : {M : Type 1} → statement M
 run-spec =
     tie.close
     (tie.spec
-    Inv-loop μ-loop (λ c κs. search needs) returns loop-holds same-length same-length-2 returns-2 (λ c κs. omega arith)
-    (λ c. search needs) same-length-3 same-length-4 returns-3 (λ c. search needs) (λ c κs. search needs) (λ c. omega arith)
-    (λ c. search needs) put-requires (λ c. omega arith) (λ c. omega arith) loop-again same-length-5 same-length-6 returns-4)
+    Inv-loop μ-loop (λ c κs. search needs) returns returns-2 (λ c κs. search needs) loop-holds same-length same-length-2 returns-3
+    (λ c κs. search needs) (λ c. omega (arith, c .slot-of .ensures)) (λ c. omega (arith, c .slot-of .ensures))
+    at-requires (λ c. omega (arith, c .before .before .before .before .slot-of .ensures)) (λ c. omega (arith, c .before .before .before .before .slot-of .ensures))
+    (λ c. omega (arith, c .before .before .before .slot-of .ensures)) (λ c. omega (arith, c .before .before .before .slot-of .ensures)) step-requires
+    (λ c. search needs) same-length-3 same-length-4 returns-4 (λ c. search needs) (λ c κs. search needs) mul-put
+    (λ c. search needs) put-requires add-steps loop-less loop-again same-length-5 same-length-6 returns-5)
