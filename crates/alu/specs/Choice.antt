@@ -1,4 +1,4 @@
--- The operations that one loop computes, told apart by a number: the last of them for every other number.
+-- The operations that share a loop. A number tells them apart, the last of them for every number that is left; asrh from asr, a flag.
 use Prim.Native.Nat.{ℕ}
 use mathlib.Core.Bool.{Bool, cond}
 use lib.Dec.{eqb}

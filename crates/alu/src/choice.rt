@@ -1,4 +1,4 @@
-// The instructions that share a loop, on one thread's values: a number, the same for all threads, says which one it is.
+// The instructions that share a loop, on one thread's values. What tells them apart is the same for all threads.
 ghost use mathlib.Core.Path.{_≡_};
 ghost use Prim.Native.Nat.{ℕ, _<_, _^_};
 ghost use Rattle.machine.specs.Integer.{modulo};
@@ -22,7 +22,11 @@ pub fn shift(high: bool, size: u8, a: u64, b: u64) -> u64
     requires { ⌜ Sized size × (a < 2 ^ size) ⌝ }
     ensures { λ r. ⌜ ((c : ℕ) → r ≡ modulo (resultBy (shiftBy high size) a b c) 64) ⌝ }
 {
-    if high { signs::asrh(size, a, b) } else { signs::asr(size, a, b) }
+    if high {
+        signs::asrh(size, a, b)
+    } else {
+        signs::asr(size, a, b)
+    }
 }
 
 pub fn scan(which: u8, a: u64) -> u64

@@ -38,6 +38,7 @@ pub fn result(operation: Operation, a: u64, b: u64, c: u64) -> u64
     }
 }
 
+// For all threads.
 pub fn results(operation: Operation, sources: &[[u64; 32]; 3], out: &mut [u64; 32])
     requires { ⌜ (length (now out) ≡ 32) × SizedBy operation × RowsWithin operation (now sources) ⌝ }
     ensures { λ _. ⌜ now (out .exit) ≡ tab 32 (resultAt operation (now (sources .entry))) ⌝ }

@@ -16,7 +16,9 @@ abbrev μ-loop : tie.MeasureT-loop
 
 loop-again : tie.Need-loop-again Inv-loop μ-loop
 unfolding getSr modulo
-loop-again w = λ b c. goes-on (w .before .before .loop .inv b c) (omega arith) (omega (arith, w .before .before .before .pre .1 (w .before .before .loop .t) (omega arith)))
+loop-again w =
+    let l = w .before .before .loop in
+    λ b c. goes-on (l .inv b c) (omega arith) (omega (arith, w .before .before .before .pre .1 (l .t) (omega arith)))
 
 returns : tie.Need-returns Inv-loop μ-loop
 returns w = λ b c. ends (w .before .loop .inv b c) (omega arith)

@@ -16,7 +16,7 @@ abbrev μ-loop : tie.MeasureT-loop
 
 loop-again : tie.Need-loop-again Inv-loop μ-loop
 unfolding mov modulo
-loop-again w = λ a b c. goes-on (w .before .loop .inv a b c) (omega arith) (omega (arith, w .before .before .fits .imm))
+loop-again w = λ a b c. goes-on (w .before .loop .inv a b c) (omega arith) (omega arith)
 
 returns : tie.Need-returns Inv-loop μ-loop
 returns w = λ a b c. ends (w .before .loop .inv a b c) (omega arith)
