@@ -1,21 +1,11 @@
 // A run: the 32 threads step in lockstep until the code is at its end, the budget is used up, or an instruction is refused.
-ghost use mathlib.Core.Path.{_≡_};
-ghost use Prim.Native.Nat.{_/_, _%_};
 ghost use Rattle.run.specs.Ran.{Ran, callOf};
 
 use isa::answer::Refusal;
 use machine::answer::Answer;
 use machine::answer::Ending;
+use slots::SLOTS;
 use step::Turn;
-
-const SLOTS: usize = 256;
-
-// The slot of an address. Instructions have four bytes at least, so those of 1,024 bytes in a row have different slots.
-fn slot_of(address: usize) -> usize
-    ensures { λ r. ⌜ r ≡ address / 4 % 256 ⌝ }
-{
-    address / 4 % SLOTS
-}
 
 // Lengths, budget and start are looked at before anything is written. Uniforms and special registers are only read. The cache holds plans,
 // each under the slot of its address; where another address is the slot's, its plan takes the place.
@@ -41,9 +31,9 @@ pub fn run(code: &[u8], registers: &mut [u32], uniforms: &[u32], specials: &[u32
         if steps == budget {
             return Answer { ending: Ending::Spent, steps, address, mask: active };
         }
-        let k = slot_of(address);
+        let k = slots::slot_of(address);
         let known = cache[k];
-        if known.address != address {
+        if !slots::is_of(known.address, address) {
             cache[k] = plan::at(code, address);
         }
         let p = cache[k];

@@ -1,11 +1,12 @@
 -- Each turn is a step of the run: what is still to run leaves what the whole run leaves, and where the loop is left nothing is. The cache
 -- holds plans of the code.
-use mathlib.Core.Path.{refl, ap, _∙_}
+use mathlib.Core.Path.{refl, sym, ap, _∙_}
 use mathlib.Core.Logic.{inl, inr, ⊎-elim}
 use Prim.Native.Nat.{_-_}
 use native.Mathlib.Omega.{arith}
 use lib.ListN.{length}
 use borrow.Author.Needs.{needs}
+use borrow.Author.Tests.{eqb-true, not-false}
 use denote.Ref.{now}
 use Rattle.effect.specs.Rows.{rows, Fit}
 use Rattle.run.specs.Ran.{callOf}
@@ -56,11 +57,12 @@ at-requires c κs = c .before .before .before .before .before .before .loop .inv
 step-requires : tie.Need-step-requires Inv-loop μ-loop
 step-requires c κs =
     let j = c .before .before .before .before .if4 in
+    let o = c .before .before .before .before .before .is-of in
     let l = c .before .before .before .before .before .before .before .before .before .before .loop in
     let a = c .before .before .before .before .before .before .before .before .before .before .before .before .before .before .before .before .before .before .before .before .args in
     let k = c .before .before .before .before .before .before .before .slot-of in
     let h = looked (now (a .code)) (l .cache) (j .cache) (k .result) (l .address) (l .inv .1) (omega (arith, k .ensures))
-          (⊎-elim (λ w. inl (w .1 .result, w .1 .ensures, w .2)) (λ w. inr (w .0 .left, w .1)) (j .came)) in
+          (⊎-elim (λ w. inl (w .1 .result, w .1 .ensures, w .2)) (λ w. inr (eqb-true _ _ (sym (o .ensures) ∙ not-false (o .result) (w .0 .left)), w .1)) (j .came)) in
     let size = l .inv .0 .code in
     (h .is, rw (h .here) (l .inv .0 .inside), omega arith, l .inv .2)
 
@@ -73,11 +75,12 @@ same-length-4 c = c .before .before .before .before .before .before .before .bef
 returns-4 : tie.Need-returns-4 Inv-loop μ-loop
 returns-4 c =
     let j = c .before .before .before .before .before .before .before .before .before .before .if4 in
+    let o = c .before .before .before .before .before .before .before .before .before .before .before .is-of in
     let l = c .before .before .before .before .before .before .before .before .before .before .before .before .before .before .before .before .loop in
     let a = c .before .before .before .before .before .before .before .before .before .before .before .before .before .before .before .before .before .before .before .before .before .before .before .before .before .before .args in
     let k = c .before .before .before .before .before .before .before .before .before .before .before .before .before .slot-of in
     let h = looked (now (a .code)) (l .cache) (j .cache) (k .result) (l .address) (l .inv .1) (omega (arith, k .ensures))
-          (⊎-elim (λ w. inl (w .1 .result, w .1 .ensures, w .2)) (λ w. inr (w .0 .left, w .1)) (j .came)) in
+          (⊎-elim (λ w. inl (w .1 .result, w .1 .ensures, w .2)) (λ w. inr (eqb-true _ _ (sym (o .ensures) ∙ not-false (o .result) (w .0 .left)), w .1)) (j .came)) in
     let r = c .before .r .given in
     let s = c .before .before .before .before .before .step in
     at-refusal (l .inv .0) (c .before .before .before .before .before .before .before .before .before .before .before .before .before .before .before .loop-test .taken) (c .before .before .before .before .before .before .before .before .before .before .before .before .before .before .if3 .left) (s .result) (s .last .1 .1 .0)
@@ -104,11 +107,12 @@ loop-less c =
 loop-again : tie.Need-loop-again Inv-loop μ-loop
 loop-again c =
     let j = c .before .before .before .before .before .before .before .before .before .before .before .before .before .before .before .before .if4 in
+    let o = c .before .before .before .before .before .before .before .before .before .before .before .before .before .before .before .before .before .is-of in
     let l = c .before .before .before .before .before .before .before .before .before .before .before .before .before .before .before .before .before .before .before .before .before .before .loop in
     let a = c .before .before .before .before .before .before .before .before .before .before .before .before .before .before .before .before .before .before .before .before .before .before .before .before .before .before .before .before .before .before .before .before .args in
     let k = c .before .before .before .before .before .before .before .before .before .before .before .before .before .before .before .before .before .before .before .slot-of in
     let h = looked (now (a .code)) (l .cache) (j .cache) (k .result) (l .address) (l .inv .1) (omega (arith, k .ensures))
-          (⊎-elim (λ w. inl (w .1 .result, w .1 .ensures, w .2)) (λ w. inr (w .0 .left, w .1)) (j .came)) in
+          (⊎-elim (λ w. inl (w .1 .result, w .1 .ensures, w .2)) (λ w. inr (eqb-true _ _ (sym (o .ensures) ∙ not-false (o .result) (w .0 .left)), w .1)) (j .came)) in
     let p = c .before .before .put in
     let m = c .before .before .before .before .before .«record» in
     let n = c .before .before .before .before .before .before .before .next .given in
@@ -134,7 +138,7 @@ run-spec =
     (tie.spec
     Inv-loop μ-loop (λ c κs. search needs) returns returns-2 (λ c κs. search needs) loop-holds same-length same-length-2 returns-3
     (λ c κs. search needs) (λ c. omega (arith, c .slot-of .ensures)) (λ c. omega (arith, c .slot-of .ensures))
-    at-requires (λ c. omega (arith, c .before .before .before .before .slot-of .ensures)) (λ c. omega (arith, c .before .before .before .before .slot-of .ensures))
+    (λ c κs. search needs) at-requires (λ c. omega (arith, c .before .before .before .before .slot-of .ensures)) (λ c. omega (arith, c .before .before .before .before .slot-of .ensures))
     (λ c. omega (arith, c .before .before .before .slot-of .ensures)) (λ c. omega (arith, c .before .before .before .slot-of .ensures)) step-requires
     (λ c. search needs) same-length-3 same-length-4 returns-4 (λ c. search needs) (λ c κs. search needs) mul-put
     (λ c. search needs) put-requires add-steps loop-less loop-again same-length-5 same-length-6 returns-5)
