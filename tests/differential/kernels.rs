@@ -4,7 +4,7 @@ use crate::instructions::{any_bytes, any_form, good, Limits, ANY};
 use crate::plain::find::{Form, Name, FORMS};
 use crate::random::Random;
 
-const MOST_CODE: usize = 8192;
+pub const MOST_CODE: usize = 8192;
 
 /// What is lent to a run, and the numbers of its call.
 pub struct Run {
@@ -76,7 +76,7 @@ fn kernel(random: &mut Random, limits: Limits) -> Kernel {
 }
 
 /// A number from 1 to two to the `most`, small ones as often as large ones.
-fn few(random: &mut Random, most: usize) -> usize {
+pub fn few(random: &mut Random, most: usize) -> usize {
     let bits = random.below(most + 1);
     1 + random.below(1 << bits)
 }
@@ -169,7 +169,7 @@ fn start(random: &mut Random, kernel: &Kernel) -> usize {
     }
 }
 
-fn mask(random: &mut Random) -> u32 {
+pub fn mask(random: &mut Random) -> u32 {
     match random.below(8) {
         0 => 0,
         1 => 1 << random.below(32),
@@ -178,12 +178,12 @@ fn mask(random: &mut Random) -> u32 {
     }
 }
 
-fn words(random: &mut Random, count: usize) -> Vec<u8> {
+pub fn words(random: &mut Random, count: usize) -> Vec<u8> {
     (0..count).flat_map(|_| random.word().to_le_bytes()).collect()
 }
 
 /// Any words; r0l of most runs is 0 or small, as kernels with branches have it.
-fn registers_of(random: &mut Random, count: usize) -> Vec<u8> {
+pub fn registers_of(random: &mut Random, count: usize) -> Vec<u8> {
     let mut bytes = words(random, 32 * count);
     let small = random.below(4);
     for t in 0..32 {

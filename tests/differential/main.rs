@@ -1,12 +1,17 @@
 //! Compares the exported functions of the proved program with the plain Rust program, on random and damaged instructions, on random
-//! runs and on pairs of kernels: every answer, and every byte of every buffer. What is lent lies against pages that nobody may touch.
+//! runs, on runs that come back to addresses and on pairs of kernels: every answer, and every byte of every buffer. What is lent lies
+//! against pages that nobody may touch.
 //!
 //! The arguments are a factor for the number of cases and a seed; with the same two the cases are the same. With `--named`
 //! before them each case is named before it is tried.
 
 mod arrange;
+#[path = "../../bench/assemble.rs"]
+#[allow(dead_code)]
+mod assemble;
 #[path = "../comparison/beside.rs"]
 mod beside;
+mod blocks;
 mod calling;
 mod comparing;
 mod damage;
@@ -22,20 +27,27 @@ mod guarded;
 mod instructions;
 mod kernels;
 mod nulls;
+mod overlaps;
 mod pairs;
 #[path = "../../bench/plain/mod.rs"]
 #[allow(dead_code, unused_imports)]
 mod plain;
 mod random;
 mod report;
+mod revisits;
+mod rounds;
 mod running;
 mod stepped;
+mod traps;
+mod visits;
 
 use report::Report;
 
 const DECODED: u64 = 204_800;
 const ENCODED: u64 = 307_200;
 const RUNS: u64 = 6_144;
+/// Runs that come back to addresses, of each kind.
+const REVISITS: u64 = 256;
 const COMPARED: u64 = 61_440;
 /// The encodings of each form in which every bit is turned round.
 const TURNED: u64 = 20;
@@ -53,6 +65,7 @@ fn main() {
     decoding::compare(&mut report, seed, cases(DECODED));
     encoding::compare(&mut report, seed, cases(ENCODED));
     running::compare(&mut report, seed, cases(RUNS));
+    revisits::compare(&mut report, seed, cases(REVISITS));
     comparing::compare(&mut report, seed, cases(COMPARED), cases(TURNED));
     std::process::exit(if report.end() { 0 } else { 1 });
 }

@@ -14,7 +14,7 @@ const GROUP: u64 = 3;
 const ONE_BAD_IN: usize = 5;
 
 /// Memory that is lent again and again.
-struct Rooms {
+pub struct Rooms {
     code: Guarded,
     registers: Guarded,
     uniforms: Guarded,
@@ -25,11 +25,11 @@ struct Rooms {
 
 /// What a run gave, and what it left in what it may write.
 #[derive(PartialEq)]
-struct Left {
-    given: i32,
+pub struct Left {
+    pub given: i32,
     registers: Vec<u8>,
-    records: Vec<u8>,
-    answer: Vec<u8>,
+    pub records: Vec<u8>,
+    pub answer: Vec<u8>,
 }
 
 struct Running {
@@ -60,8 +60,7 @@ impl Running {
         if let Some(which) = bad {
             BAD[which].1(&mut run, random);
         }
-        let wanted = plain(&run);
-        let left = self.rooms.exported(&run, random);
+        let (wanted, difference) = self.rooms.held(&run, random);
         self.refused[-wanted.given as usize] += 1;
         if let (Some(which), -1) = (bad, wanted.given) {
             self.bad[which] += 1;
@@ -69,8 +68,7 @@ impl Running {
         if wanted.given != -1 {
             self.stepped.count(&run.code, &wanted.records, &wanted.answer);
         }
-        let intact = self.rooms.intact();
-        (left != wanted || !intact).then(|| told(&run, &wanted, &left, intact))
+        difference
     }
 }
 
@@ -91,7 +89,7 @@ fn plain(run: &Run) -> Left {
 }
 
 impl Rooms {
-    fn new() -> Rooms {
+    pub fn new() -> Rooms {
         let (read, write) = (Access::ReadOnly, Access::Writable);
         Rooms {
             code: Guarded::new(8200, read),
@@ -101,6 +99,15 @@ impl Rooms {
             records: Guarded::new(16 * 4097 + 64, write),
             answer: Guarded::new(64, write),
         }
+    }
+
+    /// What the plain program leaves of a run, and the text of a difference where the exported one leaves something else.
+    pub fn held(&mut self, run: &Run, random: &mut Random) -> (Left, Option<String>) {
+        let wanted = plain(run);
+        let left = self.exported(run, random);
+        let intact = self.intact();
+        let difference = (left != wanted || !intact).then(|| told(run, &wanted, &left, intact));
+        (wanted, difference)
     }
 
     fn all(&mut self) -> [&mut Guarded; 6] {
