@@ -15,7 +15,7 @@
  * - During a call nothing else may write to a lent buffer, nor read one that the call writes.
  * - Nothing outside the lent buffers is read or written, and every call returns, whatever stands in them.
  * - No state is kept and no memory is allocated: calls on different buffers may be made at the same time. Code and
- *   tables that are only read may be shared. A run takes about 60 KB of stack, the others less.
+ *   tables that are only read may be shared. A run takes about 80 KB of stack, the others less.
  */
 #ifndef REEDTASSEL_H
 #define REEDTASSEL_H

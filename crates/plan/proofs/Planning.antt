@@ -37,7 +37,9 @@ pub rest : (code : List ℕ) (address : ℕ) → take (length code - address) (d
 rest code address = take-all (length code - address) (drop address code) (le-of-eq (length-drop address code))
 
 -- nothing is lent at the end of the code
-pub at-end : (code : List ℕ) → Decoded.Refused (refusal 2) ≡ decodeOf (drop (length code) code)
-at-end code =
-    decoding.decoded [] (λ j. lit< tt) 0 0 (Find.Refused (refusal 2)) refl refl (sym (none-lent 0 0 refl (lit< tt))) (Find.Refused (refusal 2)) refl
-    ∙ ap decodeOf (sym (drop-of-length-le code {i = length code} (le-refl (length code))))
+pub plan-of-end : (code : List ℕ) → Planned (decodeOf (drop (length code) code)) (length code) (refusedWith (refusal 2) (length code))
+plan-of-end code =
+    plan-of-same
+    (decoding.decoded [] (λ j. lit< tt) 0 0 (Find.Refused (refusal 2)) refl refl (sym (none-lent 0 0 refl (lit< tt))) (Find.Refused (refusal 2)) refl
+      ∙ ap decodeOf (sym (drop-of-length-le code {i = length code} (le-refl (length code)))))
+    (plan-of-refusal (refusal 2) (length code))

@@ -3,6 +3,7 @@ ghost use mathlib.Core.Path.{_≡_};
 ghost use Prim.Native.Nat.{_≤_};
 ghost use lib.ListN.{length, drop};
 ghost use Rattle.isa.specs.Decode.{decodedOf, decodeOf};
+ghost use Rattle.isa.specs.Refusal.{refusal};
 ghost use Rattle.plan.specs.Plan.{Planned, NarrowReading, planWith, refusedWith};
 
 use finding::matching;
@@ -82,7 +83,7 @@ pub fn at(code: &[u8], address: usize) -> Plan
 
 // The plan of the end of the code, where nothing is lent to decode.
 pub fn past_end(code: &[u8]) -> Plan
-    ensures { λ p. ⌜ Planned (decodeOf (drop (length (now (code .entry))) (now (code .entry)))) (length (now (code .entry))) p ⌝ }
+    ensures { λ p. ⌜ p ≡ refusedWith (refusal 2) (length (now (code .entry))) ⌝ }
 {
     refused(Refusal::CutShort, code.len())
 }

@@ -9,6 +9,7 @@ use borrow.Author.Needs.{needs}
 use borrow.Author.Tests.{eqb-true, not-false}
 use denote.Ref.{now}
 use Rattle.effect.specs.Rows.{rows, Fit}
+use Rattle.plan.proofs.Planning.{plan-of-end}
 use Rattle.run.specs.Ran.{callOf}
 use Rattle.run.specs.Cache.{Cached}
 use Rattle.run.proofs.Promise.{at-bad-size}
@@ -39,8 +40,9 @@ returns-2 c =
 loop-holds : tie.Need-loop-holds Inv-loop μ-loop
 loop-holds c =
     let t = c .before .before .before .arranged in
+    let code = now (c .before .before .before .before .before .before .before .before .before .args .code) in
     (at-start (omega arith) (t .result) (t .ensures) (c .before .before .if1 .left),
-      cached-first _ _ _ (c .past-end .ensures), record { three = refl; all = refl })
+      cached-first code (length code) (c .past-end .result) (rw (c .past-end .ensures) (plan-of-end code)), record { three = refl; all = refl })
 
 same-length : tie.Need-same-length Inv-loop μ-loop
 same-length c = c .before .before .loop .inv .0 .registersKept
