@@ -58,11 +58,12 @@ pub record OnWay (c : Call) (registers room : List ℕ) (address mask steps : �
   pub toRun : leavesBy steps room (runFrom (c .code) (tablesOf c) (c .budget - steps) (stateAt (threadsAt registers mask) address))
       ≡ leavesBy 0 (c .records) (runOf c)
 
-pub at-start : {c : Call} → c .mask < 2 ^ 32 → (t : Bool) → t ≡ arrangedIn c → not t ≡ false
-    → OnWay c (c .registers) (c .records) (c .start) (c .mask) 0
+pub sizes-arranged : (c : Call) (t : Bool) → t ≡ arrangedIn c → not t ≡ false → arranged c ≡ true
+sizes-arranged c t e f = sym (e ∙ arranged-in c) ∙ not-false t f
+
+pub at-start : {c : Call} → c .mask < 2 ^ 32 → arranged c ≡ true → OnWay c (c .registers) (c .records) (c .start) (c .mask) 0
 unfolding runOf
-at-start {c} h t e f =
-    let a : arranged c ≡ true = sym (e ∙ arranged-in c) ∙ not-false t f in
+at-start {c} h a =
     let s = sizes c a in
     record {
       fits = h; code = s .code; budget = s .budget; space = s .room; inside = s .inside; within = omega arith;

@@ -1,4 +1,7 @@
 // A run: the 32 threads step in lockstep until the code is at its end, the budget is used up, or an instruction is refused.
+ghost use mathlib.Core.Path.{_≡_};
+ghost use mathlib.Core.Bool.{true};
+ghost use Rattle.machine.specs.Run.{arranged};
 ghost use Rattle.run.specs.Ran.{Ran, callOf};
 
 use isa::answer::Refusal;
@@ -7,23 +10,16 @@ use machine::answer::Ending;
 use slots::SLOTS;
 use step::Turn;
 
-// Lengths, budget and start are looked at before anything is written. Uniforms and special registers are only read. The cache holds plans,
-// each under the slot of its address; where another address is the slot's, its plan takes the place.
-pub fn run(code: &[u8], registers: &mut [u32], uniforms: &[u32], specials: &[u32], start: usize, mask: u32, budget: usize, records: &mut [u8]) -> Answer
+// A run whose sizes are as they have to be. The cache holds plans, each in the slot of its address; where the slot has the plan of another
+// address, that of this one takes its place.
+fn run_arranged(code: &[u8], registers: &mut [u32], uniforms: &[u32], specials: &[u32], start: usize, mask: u32, budget: usize, records: &mut [u8]) -> Answer
+    requires { ⌜ arranged (callOf (now code) (now registers) (now uniforms) (now specials) start mask budget (now records)) ≡ true ⌝ }
     ensures { λ r. ⌜ Ran (callOf (now (code .entry)) (now (registers .entry)) (now (uniforms .entry)) (now (specials .entry)) start mask budget (now (records .entry)))
         r (now (registers .exit)) (now (records .exit)) ⌝ }
 {
-    if !sizes::arranged(code.len(), registers.len(), uniforms.len(), specials.len(), start, budget, records.len()) {
-        return Answer { ending: Ending::Refused(Refusal::BadSize), steps: 0, address: start, mask };
-    }
-    if start == code.len() {
-        return Answer { ending: Ending::Finished, steps: 0, address: start, mask };
-    }
-    let zero = [0u64; 32];
-    let mut sources = [zero; 3];
-    let mut values = zero;
-    let first = plan::past_end(code);
-    let mut cache = [first; SLOTS];
+    let mut sources = [[0u64; 32]; 3];
+    let mut values = [0u64; 32];
+    let mut cache = [plan::past_end(code); SLOTS];
     let mut address = start;
     let mut active = mask;
     let mut steps = 0;
@@ -51,4 +47,19 @@ pub fn run(code: &[u8], registers: &mut [u32], uniforms: &[u32], specials: &[u32
         }
     }
     Answer { ending: Ending::Finished, steps, address, mask: active }
+}
+
+// Lengths, budget and start are looked at before anything is written. Uniforms and special registers are only read. A run that starts at
+// the end of the code makes no step, and needs no cache.
+pub fn run(code: &[u8], registers: &mut [u32], uniforms: &[u32], specials: &[u32], start: usize, mask: u32, budget: usize, records: &mut [u8]) -> Answer
+    ensures { λ r. ⌜ Ran (callOf (now (code .entry)) (now (registers .entry)) (now (uniforms .entry)) (now (specials .entry)) start mask budget (now (records .entry)))
+        r (now (registers .exit)) (now (records .exit)) ⌝ }
+{
+    if !sizes::arranged(code.len(), registers.len(), uniforms.len(), specials.len(), start, budget, records.len()) {
+        return Answer { ending: Ending::Refused(Refusal::BadSize), steps: 0, address: start, mask };
+    }
+    if start == code.len() {
+        return Answer { ending: Ending::Finished, steps: 0, address: start, mask };
+    }
+    run_arranged(code, registers, uniforms, specials, start, mask, budget, records)
 }
