@@ -16,14 +16,9 @@ use operations::Test;
 use operations::Truth;
 
 pub fn mov(imm: u32, out: &mut [u64; 32])
-    requires { ⌜ length (now out) ≡ 32 ⌝ }
     ensures { λ _. ⌜ ((a b c : List ℕ) → now (out .exit) ≡ tab 32 (rowAt (meaning.mov imm) a b c)) ⌝ }
 {
-    let mut t = 0;
-    while t < 32 {
-        out[t] = imm as u64;
-        t += 1;
-    }
+    *out = [imm as u64; 32];
 }
 
 pub fn get_sr(a: &[u64; 32], out: &mut [u64; 32])
