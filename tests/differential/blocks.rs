@@ -97,9 +97,9 @@ impl Blocks {
         self.put(at, &code.0)
     }
 
-    /// Lets the blocks follow one another in a random ring. Where no thread is active `trap` follows if there is one; otherwise mostly
+    /// Lets the blocks follow one another in a random ring. Where no thread is active `last` follows if there is one; otherwise mostly
     /// the next of the ring, or any.
-    pub fn link(&mut self, random: &mut Random, trap: Option<usize>) {
+    pub fn link(&mut self, random: &mut Random, last: Option<usize>) {
         let order = shuffled(random, self.entries.len());
         let mut next = self.entries.clone();
         for (k, &block) in order.iter().enumerate() {
@@ -108,7 +108,7 @@ impl Blocks {
         }
         for (jump, block) in self.others.clone() {
             let target = if random.once_in(3) { random.pick(&self.entries) } else { next[block] };
-            self.land(jump, trap.unwrap_or(target));
+            self.land(jump, last.unwrap_or(target));
         }
     }
 

@@ -33,12 +33,12 @@ mod pairs;
 #[allow(dead_code, unused_imports)]
 mod plain;
 mod random;
+mod refused;
 mod report;
 mod revisits;
 mod rounds;
 mod running;
 mod stepped;
-mod traps;
 mod visits;
 
 use report::Report;

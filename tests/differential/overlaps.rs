@@ -6,7 +6,7 @@ use crate::blocks::Blocks;
 use crate::instructions::{any_form, good, Limits};
 use crate::plain::find::{Form, Name, FORMS};
 use crate::random::Random;
-use crate::traps::refusal;
+use crate::refused::refusal;
 
 impl Blocks {
     /// A mov32 with a jump in its immediate and its free bits. The jump is a block of its own.

@@ -7,7 +7,7 @@ use crate::instructions::WORDS;
 use crate::kernels::Run;
 use crate::random::Random;
 use crate::report::Report;
-use crate::rounds::{apart, long_loop, one_step, orders, overlapping, straight, trapped, turning};
+use crate::rounds::{apart, long_loop, one_step, orders, overlapping, straight, then_refused, turning};
 use crate::running::Rooms;
 use crate::visits::{Held, Visits};
 
@@ -25,7 +25,7 @@ const KINDS: [(&str, Make, Reached); 8] = [
     ("loops longer than the slots hold", long_loop, |_, visits| visits.far() > 1024),
     ("back and forth between addresses 1,024 bytes apart, or more", apart, |_, visits| visits.far() > 8),
     ("back and forth between addresses in the same four bytes", overlapping, |_, visits| visits.near > 8),
-    ("refused where the slot has an instruction that was stepped again", trapped, |_, visits| {
+    ("refused where the slot has an instruction that was stepped again", then_refused, |_, visits| {
         matches!(visits.refused, Some(Held::Itself | Held::Near | Held::Far))
     }),
     ("jumps once taken and once not", turning, |_, visits| visits.turned.iter().all(|times| *times > 2)),

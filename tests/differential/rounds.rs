@@ -5,7 +5,7 @@ use crate::instructions::{good, Limits};
 use crate::kernels::{few, mask, registers_of, words, Run, MOST_CODE};
 use crate::plain::find::{Form, Name, FORMS};
 use crate::random::Random;
-use crate::traps;
+use crate::refused;
 
 /// What is lent with a kernel.
 fn lent(random: &mut Random, limits: Limits, code: Vec<u8>, start: usize, budget: usize) -> Run {
@@ -117,10 +117,10 @@ pub fn overlapping(random: &mut Random) -> Run {
 }
 
 /// Blocks in a ring that is left after a few turns, to an instruction that is refused.
-pub fn trapped(random: &mut Random) -> Run {
+pub fn then_refused(random: &mut Random) -> Run {
     let limits = Limits { registers: 3 + random.below(124), specials: random.below(200) };
     let number = 2 + random.below(6) as u8;
-    let blocks = traps::trapped(random, number, limits);
+    let blocks = refused::then_refused(random, number, limits);
     let start = random.pick(&blocks.entries);
     let with_counter = Limits { registers: limits.registers + 1, ..limits };
     let mut run = lent(random, with_counter, blocks.code, start, 512);
@@ -168,7 +168,7 @@ pub fn orders(random: &mut Random) -> Run {
 
 /// A kernel of another kind that is run for one step, or begun at its end.
 pub fn one_step(random: &mut Random) -> Run {
-    let mut run = random.pick(&[straight, apart, overlapping, trapped, orders])(random);
+    let mut run = random.pick(&[straight, apart, overlapping, then_refused, orders])(random);
     if random.once_in(3) {
         run.start = run.code.len() & !1;
     } else {

@@ -22,12 +22,12 @@ use Rattle.operations.specs.declared.action.Kind.{Kind}
 use Rattle.operations.specs.declared.action.Action.{Action}
 use Rattle.operations.proofs.Looks.{looked-at}
 use Rattle.alu.specs.Results.{resultAt}
-use Rattle.lanes.specs.Sources.{rowOver, gatherOver, Narrow, Bounded}
+use Rattle.lanes.specs.Sources.{rowOver, gatherOver, InSize, Bounded}
 use Rattle.lanes.specs.Results.{storeLane, zeroAt}
 use Rattle.lanes.proofs.Columns.{write-all, mask-registers, mask-bits}
 use Rattle.effect.specs.Rows.{Rows, rows, Fit, workedOn, rowsFor, rowsAfter}
 
-below : (x : Input) (row : List ℕ) (size : ℕ) → Fits x size → Narrow x row → Within row size
+below : (x : Input) (row : List ℕ) (size : ℕ) → Fits x size → InSize x row → Within row size
 below x row size f n t h = lt-of-lt-of-le (n (f .there) t h) (pow-mono (f .narrow))
 
 pub within-all : (o : Operation) (x y z : Input) (sources : List (List ℕ)) → Fitting o x y z → Bounded sources x y z → RowsWithin o sources

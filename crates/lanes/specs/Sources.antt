@@ -34,11 +34,11 @@ rowOver tables registers (Input.Operand a) row = tab 32 (valueOf tables register
 rowOver tables registers (Input.Special k) row = tab 32 (valueOf tables registers (Input.Special k))
 
 -- no value that was read has more bits than its source
-abbrev pub Narrow : Input → List ℕ → Type 0
-Narrow x row = (x ≡ Input.Nothing → ⊥) → (t : ℕ) → t < 32 → getD row t 0 < 2 ^ inputSize x
+abbrev pub InSize : Input → List ℕ → Type 0
+InSize x row = (x ≡ Input.Nothing → ⊥) → (t : ℕ) → t < 32 → getD row t 0 < 2 ^ inputSize x
 
 abbrev pub RowOver : Input → Tables → List ℕ → List ℕ → List ℕ → Type 0
-RowOver x tables registers before after = (after ≡ rowOver tables registers x before) × Narrow x after
+RowOver x tables registers before after = (after ≡ rowOver tables registers x before) × InSize x after
 
 -- the rows of three sources
 unfoldable pub gatherOver : Tables → List ℕ → Input → Input → Input → List (List ℕ) → List (List ℕ)
@@ -46,6 +46,6 @@ gatherOver tables registers a b c rows =
     rowOver tables registers a (getD rows 0 []) ∷ rowOver tables registers b (getD rows 1 []) ∷ rowOver tables registers c (getD rows 2 []) ∷ []
 
 pub record Bounded (sources : List (List ℕ)) (x y z : Input) : Type 0 where
-  pub a : Narrow x (getD sources 0 [])
-  pub b : Narrow y (getD sources 1 [])
-  pub c : Narrow z (getD sources 2 [])
+  pub a : InSize x (getD sources 0 [])
+  pub b : InSize y (getD sources 1 [])
+  pub c : InSize z (getD sources 2 [])

@@ -10,7 +10,7 @@ use crate::random::Random;
 
 /// Blocks in a ring that is left after a few turns, to an instruction which is refused with `number`. The register behind those of
 /// the limits counts the turns: it must be lent too, and be 0 at first.
-pub fn trapped(random: &mut Random, number: u8, limits: Limits) -> Blocks {
+pub fn then_refused(random: &mut Random, number: u8, limits: Limits) -> Blocks {
     let mut blocks = Blocks::new(random, limits);
     blocks.turning = Turning::Never;
     let places = places(random);
@@ -20,14 +20,14 @@ pub fn trapped(random: &mut Random, number: u8, limits: Limits) -> Blocks {
     }
     let at = below_the_last(random) + places[0];
     let near = number > 2 && random.bit() == 1;
-    let (trap, bytes) =
+    let (last, bytes) =
         if near { inside(random, &mut blocks, at, number) } else { beside(random, &mut blocks, at, number) };
     let counter = below_the_last(random) + places[1];
     let astray = number == 7 && random.once_in(3);
     count_turns(random, &mut blocks, counter, astray.then_some(&bytes));
-    blocks.link(random, Some(trap));
+    blocks.link(random, Some(last));
     if number == 2 {
-        blocks.code.truncate(trap + bytes.len());
+        blocks.code.truncate(last + bytes.len());
     } else {
         blocks.cut(random);
     }
@@ -49,9 +49,9 @@ fn beside(random: &mut Random, blocks: &mut Blocks, at: usize, number: u8) -> (u
     let first = at + 2 * random.below(2);
     blocks.plain(random, first);
     let bytes = refused(random, number, lent(blocks.limits));
-    let trap = LAYER * (LAYERS - 1) + at % LAYER + 2 * random.below(2);
-    blocks.put(trap, &bytes);
-    (trap, bytes)
+    let last = LAYER * (LAYERS - 1) + at % LAYER + 2 * random.below(2);
+    blocks.put(last, &bytes);
+    (last, bytes)
 }
 
 /// A block that begins with a mov, and in this an instruction that is refused: its address and its bytes.
