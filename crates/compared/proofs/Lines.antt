@@ -12,8 +12,8 @@ use borrow.Author.Tests.{ltb-false, lt-ltb, ne-eqb, le-leb, leb-true, leb-false}
 use Rattle.isa.specs.Text.{ascii}
 use Rattle.isa.specs.Refusal.{numberOf, refusal}
 use Rattle.isa.proofs.Numbers.{of-number, number-below}
-use Rattle.hex.specs.Hex.{digit, hexAddress}
-use Rattle.hex.proofs.Digits.{valueOf, value-digit, digit-below}
+use Rattle.digits.specs.Digits.{digit, hexAddress}
+use Rattle.digits.proofs.Digits.{valueOf, value-digit, digit-below}
 use Rattle.comparison.specs.Compare.{compareOf}
 use Rattle.comparison.specs.AnswerLine.{decimal, wordOf, kernelNumber, endedWords, refusedWords, atAddress, lineOf, writtenOf, lineLeft, Short, Printable}
 use Rattle.comparison.specs.declared.Field.{Field}

@@ -14,7 +14,7 @@ use Rattle.isa.specs.Decode.{rowAt}
 use Rattle.isa.specs.Parts.{placeOf}
 use Rattle.isa.specs.Rows.{rows}
 use Rattle.isa.specs.declared.instruction.Instruction.{Instruction}
-use Rattle.hex.specs.Hex.{digit, hexBytes, hexAddress}
+use Rattle.digits.specs.Digits.{digit, hexBytes, hexAddress}
 use Rattle.lines.specs.Line.{tailAt, lineAt, lineOf, endLine, refusedLine}
 use Rattle.listing.specs.Listing.{textOf, listingOf}
 use Rattle.walk.specs.Walk.{Walk, ended, refused, stepped, walkFrom, walkOf, limit}

@@ -7,7 +7,7 @@ use lib.ListN.{length, take, drop, length-take}
 use lib.Seq.{sets}
 use borrow.Author.Tests.{le-leb, lt-leb}
 use Rattle.isa.specs.Text.{ascii}
-use Rattle.hex.specs.Hex.{hexAddress}
+use Rattle.digits.specs.Digits.{hexAddress}
 use Rattle.comparison.specs.AnswerLine.{atAddress, writtenOf, lineLeft}
 use Rattle.bits.proofs.Pieces.{after, put-first}
 

@@ -33,7 +33,7 @@ fn write_at(text: &mut [u8], at: usize, words: Words) -> usize
         return 0;
     }
     let all = words.text;
-    hex::put_address(text, 0, at);
+    digits::put_address(text, 0, at);
     piece::put(text, 5, &all[..words.length]);
     n
 }

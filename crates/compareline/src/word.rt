@@ -3,7 +3,7 @@ ghost use mathlib.Core.Path.{_≡_};
 ghost use Prim.Native.Nat.{_<_};
 ghost use Rattle.comparison.specs.AnswerLine.{wordOf, kernelNumber, endedWords, refusedWords, Short};
 ghost use Rattle.comparison.specs.declared.Field.{Field};
-ghost use Rattle.hex.specs.Hex.{digit};
+ghost use Rattle.digits.specs.Digits.{digit};
 ghost use Rattle.compareline.specs.Words.{Says};
 
 use comparison::Field;
@@ -22,11 +22,11 @@ fn of_other(bit: u8) -> Words
 {
     let mut text = *b"field      ";
     if bit < 10 {
-        text[6] = hex::hex_digit(bit);
+        text[6] = digits::hex_digit(bit);
         Words { text, length: 7 }
     } else {
-        text[6] = hex::hex_digit(bit / 10);
-        text[7] = hex::hex_digit(bit % 10);
+        text[6] = digits::hex_digit(bit / 10);
+        text[7] = digits::hex_digit(bit % 10);
         Words { text, length: 8 }
     }
 }
@@ -70,7 +70,7 @@ pub fn of_refused(r: Refusal, k: Kernel) -> Words
     ensures { λ w. ⌜ Says w (refusedWords r k) ⌝ }
 {
     let mut text = *b"refused    ";
-    text[8] = hex::hex_digit(answer::number(r));
+    text[8] = digits::hex_digit(answer::number(r));
     text[10] = kernel_digit(k);
     Words { text, length: 11 }
 }

@@ -7,7 +7,7 @@ use lib.ListN.{length, drop}
 use Rattle.isa.specs.Text.{ascii}
 use Rattle.isa.specs.Refusal.{numberOf}
 use Rattle.isa.specs.declared.answer.Refusal.{Refusal}
-use Rattle.hex.specs.Hex.{digit, hexAddress}
+use Rattle.digits.specs.Digits.{digit, hexAddress}
 use Rattle.comparison.specs.declared.Field.{Field}
 use Rattle.comparison.specs.declared.Kernel.{Kernel}
 use Rattle.comparison.specs.declared.Comparison.{Comparison}

@@ -7,7 +7,7 @@ use Rattle.isa.specs.Decode.{rowAt}
 use Rattle.isa.specs.Parts.{placeOf}
 use Rattle.isa.specs.declared.answer.Refusal.{Refusal}
 use Rattle.isa.specs.declared.instruction.Instruction.{Instruction}
-use Rattle.hex.specs.Hex.{digit, hexBytes, hexAddress}
+use Rattle.digits.specs.Digits.{digit, hexBytes, hexAddress}
 
 -- the end of an instruction's line: the heading word of the diagram at a place of the list
 abbrev pub tailAt : ℕ → List ℕ

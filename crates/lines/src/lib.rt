@@ -23,8 +23,8 @@ pub fn put_line(text: &mut [u8], n: usize, at: usize, bytes: &[u8], place: usize
     requires { ⌜ (n + (5 + 2 * length (now bytes) + length (tailAt place)) ≤ length (now text)) × (at < 65536) × (place < 22) ⌝ }
     ensures { λ r. ⌜ now (text .exit) ≡ sets (now (text .entry)) n (lineAt at (now (bytes .entry)) place) ⌝ }
 {
-    hex::put_address(text, n, at);
-    hex::put_bytes(text, n + 5, bytes);
+    digits::put_address(text, n, at);
+    digits::put_bytes(text, n + 5, bytes);
     heading::put_tail(text, n + 5 + 2 * bytes.len(), place);
 }
 
@@ -32,7 +32,7 @@ pub fn put_end(text: &mut [u8], n: usize, at: usize)
     requires { ⌜ (n + 9 ≤ length (now text)) × (at < 65536) ⌝ }
     ensures { λ r. ⌜ now (text .exit) ≡ sets (now (text .entry)) n (endLine at) ⌝ }
 {
-    hex::put_address(text, n, at);
+    digits::put_address(text, n, at);
     piece::put(text, n + 5, b"end\n");
 }
 
@@ -40,8 +40,8 @@ pub fn put_refused(text: &mut [u8], n: usize, at: usize, r: Refusal)
     requires { ⌜ (n + 15 ≤ length (now text)) × (at < 65536) ⌝ }
     ensures { λ _. ⌜ now (text .exit) ≡ sets (now (text .entry)) n (refusedLine at r) ⌝ }
 {
-    hex::put_address(text, n, at);
+    digits::put_address(text, n, at);
     let mut word = *b"refused 0\n";
-    word[8] = hex::hex_digit(answer::number(r));
+    word[8] = digits::hex_digit(answer::number(r));
     piece::put(text, n + 5, &word);
 }

@@ -15,10 +15,10 @@ use Rattle.isa.specs.declared.answer.Refusal.{Refusal}
 use Rattle.isa.specs.declared.instruction.Instruction.{Instruction}
 use Rattle.walk.specs.Walk.{Walk, ended, refused, stepped, shown, refusalOf}
 use Rattle.lines.specs.Line.{tailAt, lineAt, endLine, refusedLine}
-use Rattle.hex.specs.Hex.{digit, hexBytes}
+use Rattle.digits.specs.Digits.{digit, hexBytes}
 use Rattle.listing.specs.Listing.{textOf}
 use Rattle.bits.proofs.Table.{agree}
-use Rattle.hex.proofs.Digits.{valueOf, value-digit, digit-above, digit-below, byte-same}
+use Rattle.digits.proofs.Digits.{valueOf, value-digit, digit-above, digit-below, byte-same}
 use Rattle.isa.proofs.Placed.{place-below}
 use Rattle.isa.proofs.Numbers.{of-number, number-below}
 

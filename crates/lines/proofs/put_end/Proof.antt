@@ -4,7 +4,7 @@ use mathlib.Core.List.{_++_}
 use Prim.Native.Nat.{_+_}
 use Rattle.isa.specs.Text.{ascii}
 use Rattle.lines.specs.Line.{endLine}
-use Rattle.hex.specs.Hex.{hexAddress}
+use Rattle.digits.specs.Digits.{hexAddress}
 use Rattle.bits.proofs.Pieces.{after}
 use borrow.Author.Needs.{needs}
 use Rattle.lines.proofs.put_end.Statement.{statement}

@@ -6,9 +6,9 @@ use native.Mathlib.Omega.{arith}
 use lib.ListN.{length}
 use Rattle.isa.specs.Text.{ascii}
 use Rattle.lines.specs.Line.{tailAt, lineAt}
-use Rattle.hex.specs.Hex.{hexAddress, hexBytes}
+use Rattle.digits.specs.Digits.{hexAddress, hexBytes}
 use Rattle.bits.proofs.Pieces.{after}
-use Rattle.lines.proofs.Lengths.{length-hexBytes}
+use Rattle.digits.proofs.Digits.{length-hexBytes}
 use borrow.Author.Needs.{needs}
 use Rattle.lines.proofs.put_line.Statement.{statement}
 use Rattle.lines.proofs.put_line.Tie as tie

@@ -7,7 +7,7 @@ use lib.Seq.{sets}
 use Rattle.isa.specs.Text.{ascii}
 use Rattle.isa.specs.Refusal.{numberOf}
 use Rattle.lines.specs.Line.{refusedLine}
-use Rattle.hex.specs.Hex.{digit, hexAddress}
+use Rattle.digits.specs.Digits.{digit, hexAddress}
 use Rattle.bits.proofs.Pieces.{after}
 use Rattle.isa.proofs.Numbers.{number-below}
 use borrow.Author.Needs.{needs}

@@ -5,11 +5,11 @@ use Prim.Native.Nat.{_+_, _/_, _%_}
 use native.Mathlib.Omega.{arith}
 use lib.ListN.{length-set}
 use Rattle.isa.specs.Text.{ascii}
-use Rattle.hex.specs.Hex.{hexByte}
+use Rattle.digits.specs.Digits.{hexByte}
 use Rattle.bits.proofs.Pieces.{after}
 use borrow.Author.Needs.{needs}
-use Rattle.hex.proofs.put_address.Statement.{statement}
-use Rattle.hex.proofs.put_address.Tie as tie
+use Rattle.digits.proofs.put_address.Statement.{statement}
+use Rattle.digits.proofs.put_address.Tie as tie
 
 same-length : tie.Need-same-length
 same-length c = simp length-set (omega arith)

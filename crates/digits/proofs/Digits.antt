@@ -1,12 +1,14 @@
--- Digits and bytes taken back: the number that a digit stands for, and which characters a digit can be.
+-- Digits and bytes taken back: the number that a digit stands for, and which characters a digit can be; how long the digits of bytes are.
 use mathlib.Core.Path.{_≡_, refl, sym, ap, _∙_}
 use mathlib.Core.Bool.{true, cond}
-use Prim.Native.Nat.{ℕ, _-_, _/_, _%_, _<_}
+use mathlib.Core.List.{List, [], _∷_, _++_}
+use Prim.Native.Nat.{ℕ, _*_, _-_, _/_, _%_, _<_}
 use native.Mathlib.Omega.{arith}
 use lib.Dec.{ltb}
+use lib.ListN.{length}
 use borrow.Author.Tests.{ltb-true}
 use Rattle.bits.proofs.Table.{agree}
-use Rattle.hex.specs.Hex.{digit}
+use Rattle.digits.specs.Digits.{digit, hexByte, hexBytes}
 
 abbrev pub valueOf : ℕ → ℕ
 valueOf c = cond (ltb c 65) (c - 48) (c - 55)
@@ -29,3 +31,11 @@ byte-same a b h g e f =
     let p = digit-same (a / 16) (b / 16) (omega arith) (omega arith) e in
     let q = digit-same (a % 16) (b % 16) (omega arith) (omega arith) f in
     omega arith
+
+pub length-hexBytes : (s : List ℕ) → length (hexBytes s) ≡ 2 * length s
+length-hexBytes [] = refl
+length-hexBytes (b ∷ s) = let ih = length-hexBytes s in omega arith
+
+pub hex-append : (s t : List ℕ) → hexBytes (s ++ t) ≡ hexBytes s ++ hexBytes t
+hex-append [] t = refl
+hex-append (b ∷ s) t = ap (λ (l : List ℕ). hexByte b ++ l) (hex-append s t)

@@ -5,7 +5,7 @@ ghost use Prim.Native.Nat.{_+_, _*_, _≤_, _<_};
 ghost use lib.ListN.{length};
 ghost use lib.Seq.{sets};
 ghost use Rattle.isa.specs.Text.{ascii};
-ghost use Rattle.hex.specs.Hex.{digit, hexByte, hexBytes, hexAddress};
+ghost use Rattle.digits.specs.Digits.{digit, hexByte, hexBytes, hexAddress};
 
 pub fn hex_digit(n: u8) -> u8
     requires { ⌜ n < 16 ⌝ }
@@ -14,7 +14,7 @@ pub fn hex_digit(n: u8) -> u8
     if n < 10 { n + 48 } else { n + 55 }
 }
 
-fn put_byte(text: &mut [u8], n: usize, b: u8)
+pub fn put_byte(text: &mut [u8], n: usize, b: u8)
     requires { ⌜ n + 2 ≤ length (now text) ⌝ }
     ensures { λ r. ⌜ now (text .exit) ≡ sets (now (text .entry)) n (hexByte b) ⌝ }
 {

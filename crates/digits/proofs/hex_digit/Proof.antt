@@ -1,8 +1,8 @@
 -- Below ten and from ten on, the digit is that of the definition.
 use borrow.Author.Tests.{lt-ltb, le-ltb}
 use borrow.Author.Needs.{needs}
-use Rattle.hex.proofs.hex_digit.Statement.{statement}
-use Rattle.hex.proofs.hex_digit.Tie as tie
+use Rattle.digits.proofs.hex_digit.Statement.{statement}
+use Rattle.digits.proofs.hex_digit.Tie as tie
 
 returns : tie.Need-returns
 returns c = rw (lt-ltb (c .before .args .n) 10 (c .if1 .taken))

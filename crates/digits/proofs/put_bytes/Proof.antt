@@ -7,10 +7,10 @@ use native.Mathlib.Numerals.{add-one}
 use native.Mathlib.Omega.{arith}
 use lib.ListN.{length, getD, drop, drop-of-length-le}
 use lib.Seq.{sets, drop-cons}
-use Rattle.hex.specs.Hex.{hexByte, hexBytes}
+use Rattle.digits.specs.Digits.{hexByte, hexBytes}
 use Rattle.bits.proofs.Pieces.{after}
-use Rattle.hex.proofs.put_bytes.Statement.{statement}
-use Rattle.hex.proofs.put_bytes.Tie as tie
+use Rattle.digits.proofs.put_bytes.Statement.{statement}
+use Rattle.digits.proofs.put_bytes.Tie as tie
 
 abbrev Inv-loop : tie.InvT-loop
 Inv-loop text₀ n bytes i₀ text i =
