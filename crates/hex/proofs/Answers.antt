@@ -1,0 +1,60 @@
+-- What reading answers and leaves, by what was seen of the text.
+use mathlib.Core.Path.{_≡_, refl, sym, ap, _∙_}
+use mathlib.Core.List.{List}
+use Prim.Native.Nat.{ℕ, _≤_, _<_}
+use native.Mathlib.Omega.{arith}
+use lib.ListN.{length}
+use lib.Seq.{sets}
+use borrow.Author.Tests.{le-leb, lt-leb}
+use Rattle.bits.proofs.Pieces.{put-first}
+use Rattle.hexrow.specs.declared.Fault.{Fault}
+use Rattle.hex.specs.Read.{Contents, kernel, badRow, limit, readingBy, leftBy}
+use Rattle.hex.specs.Rows.{seenBy, kernelIn}
+use Rattle.hex.specs.declared.Reading.{Reading}
+
+never : {A : Type 0} → _≡_ {A = ℕ} 0 1 → A
+never e = absurd (omega arith)
+
+-- an answer that is given, with what then stands in the buffer
+abbrev pub Given : Contents → List ℕ → Reading → List ℕ → Type 0
+Given x old r new = (r ≡ readingBy x (length old)) × (new ≡ leftBy x old)
+
+module _ (old : List ℕ) where
+  pub bad-given : (x : Contents) (r : Reading) (row : ℕ) (f : Fault) → r ≡ seenBy x → r ≡ Reading.BadRow row f
+      → Given x old (Reading.BadRow row f) old
+  bad-given (kernel code) r row f e g = never (cc)
+  bad-given (badRow k h) r row f e g = ((cc), refl)
+
+  pub size-given : (x : Contents) (r : Reading) → r ≡ seenBy x → r ≡ Reading.BadSize → Given x old Reading.BadSize old
+  size-given (kernel code) r e g = never (cc)
+  size-given (badRow k h) r e g = never (cc)
+
+  pub too-long : (x : Contents) (r : Reading) (n : ℕ) → r ≡ seenBy x → r ≡ Reading.Kernel n → limit < n → Given x old Reading.BadSize old
+  too-long (kernel code) r n e g h =
+      let l : length code ≡ n = cc in
+      let t = lt-leb (length code) limit (omega arith) in
+      (rw t, rw t)
+  too-long (badRow k f) r n e g h = never (cc)
+
+  pub no-room : (x : Contents) (r : Reading) (n : ℕ) → r ≡ seenBy x → r ≡ Reading.Kernel n → n ≤ limit → length old < n
+      → Given x old Reading.BadSize old
+  no-room (kernel code) r n e g h k =
+      let l : length code ≡ n = cc in
+      let t = le-leb (length code) limit (omega arith) in
+      let u = lt-leb (length code) (length old) (omega arith) in
+      (rw (t, u), rw (t, u))
+  no-room (badRow k f) r n e g h l = never (cc)
+
+  pub is-kernel : (x : Contents) (r : Reading) (n : ℕ) → r ≡ seenBy x → r ≡ Reading.Kernel n
+      → (x ≡ kernel (kernelIn x)) × (length (kernelIn x) ≡ n)
+  is-kernel (kernel code) r n e g = (refl, (cc))
+  is-kernel (badRow k f) r n e g = never (cc)
+
+  pub taken-in : (x : Contents) (r : Reading) (n : ℕ) → r ≡ seenBy x → r ≡ Reading.Kernel n → n ≤ limit → n ≤ length old
+      → Given x old (Reading.Kernel n) (sets old 0 (kernelIn x))
+  taken-in (kernel code) r n e g h k =
+      let l : length code ≡ n = cc in
+      let t = le-leb (length code) limit (omega arith) in
+      let u = le-leb (length code) (length old) (omega arith) in
+      (rw (t, u) (ap Reading.Kernel (sym l)), rw (t, u) (put-first old code (length code) refl (omega arith)))
+  taken-in (badRow k f) r n e g h l = never (cc)
