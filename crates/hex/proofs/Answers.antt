@@ -1,16 +1,21 @@
--- What reading answers and leaves, by what was seen of the text.
+-- What reading answers and leaves, by what was seen of the text; how large an answer can be.
 use mathlib.Core.Path.{_≡_, refl, sym, ap, _∙_}
+use mathlib.Core.Bool.{Bool, true, false, cond, _&&_}
 use mathlib.Core.List.{List}
 use Prim.Native.Nat.{ℕ, _≤_, _<_}
 use native.Mathlib.Omega.{arith}
+use lib.Dec.{leb}
 use lib.ListN.{length}
 use lib.Seq.{sets}
-use borrow.Author.Tests.{le-leb, lt-leb}
+use borrow.Author.Tests.{le-leb, lt-leb, leb-true}
 use Rattle.bits.proofs.Pieces.{put-first}
 use Rattle.hexrow.specs.declared.Fault.{Fault}
 use Rattle.hex.specs.Read.{Contents, kernel, badRow, limit, readingBy, leftBy}
 use Rattle.hex.specs.Rows.{seenBy, kernelIn}
+use Rattle.hex.specs.Write.{hexOf, writingOf}
 use Rattle.hex.specs.declared.Reading.{Reading}
+use Rattle.hex.specs.declared.Writing.{Writing}
+use Rattle.hex.proofs.Written.{length-hex}
 
 never : {A : Type 0} → _≡_ {A = ℕ} 0 1 → A
 never e = absurd (omega arith)
@@ -58,3 +63,26 @@ module _ (old : List ℕ) where
       let u = le-leb (length code) (length old) (omega arith) in
       (rw (t, u) (ap Reading.Kernel (sym l)), rw (t, u) (put-first old code (length code) refl (omega arith)))
   taken-in (badRow k f) r n e g h l = never (cc)
+
+-- no more bytes than a kernel may have are answered
+pub most-read : (x : Contents) (room n : ℕ) → readingBy x room ≡ Reading.Kernel n → n ≤ limit
+most-read (kernel code) room n e = go (leb (length code) limit) (leb (length code) room) refl e
+  where
+    go : (a b : Bool) → leb (length code) limit ≡ a → cond (a && b) (Reading.Kernel (length code)) Reading.BadSize ≡ Reading.Kernel n → n ≤ limit
+    go true true f g = let l : length code ≡ n = cc in omega (arith, leb-true (length code) limit f)
+    go true false f g = never (cc)
+    go false b f g = never (cc)
+most-read (badRow k f) room n e = never (cc)
+
+-- nor more characters than the text of such a kernel has
+pub most-written : (code : List ℕ) (room n : ℕ) → writingOf code room ≡ Writing.Text n → n ≤ 22540
+most-written code room n e = go (leb (length code) limit) (leb (length (hexOf code)) room) refl e
+  where
+    go : (a b : Bool) → leb (length code) limit ≡ a → cond (a && b) (Writing.Text (length (hexOf code))) Writing.BadSize ≡ Writing.Text n
+        → n ≤ 22540
+    go true true f g =
+        let l : length (hexOf code) ≡ n = cc in
+        let h = leb-true (length code) limit f in
+        omega (arith, length-hex code)
+    go true false f g = never (cc)
+    go false b f g = never (cc)

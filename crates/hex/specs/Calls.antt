@@ -23,10 +23,14 @@ abbrev pub writingBack : Writing → ℤ
 writingBack (Writing.Text n) = pos n
 writingBack Writing.BadSize = negℤ (pos 1)
 
--- the number of a bad row in the first eight bytes of a buffer that has them
+-- the number of a row in the first eight bytes of a buffer that has them
+abbrev pub rowTold : ℕ → List ℕ → List ℕ
+rowTold row old = cond (leb 8 (length old)) (bytesOf 8 row ++ drop 8 old) old
+
+-- the number of a bad row is told
 abbrev pub rowLeft : Reading → List ℕ → List ℕ
 rowLeft (Reading.Kernel n) old = old
-rowLeft (Reading.BadRow row f) old = cond (leb 8 (length old)) (bytesOf 8 row ++ drop 8 old) old
+rowLeft (Reading.BadRow row f) old = rowTold row old
 rowLeft Reading.BadSize old = old
 
 pub record ReadsHex (text code row : List ℕ) (returned : ℤ) (code′ row′ : List ℕ) : Type 0 where

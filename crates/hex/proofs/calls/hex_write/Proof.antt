@@ -1,51 +1,38 @@
+-- The number that goes with the answer.
+use mathlib.Core.Path.{_≡_, sym, ap, _∙_}
+use Prim.Native.Nat.{ℕ, _≤_}
+use native.Mathlib.Omega.{arith}
+use lib.ListN.{length}
+use mir.Syntax.{w32}
+use mir.Facts.{toZ-pos}
 use borrow.Author.Needs.{needs}
+use Rattle.hex.specs.Calls.{writingBack}
+use Rattle.hex.proofs.Answers.{most-written}
 use Rattle.hex.proofs.calls.hex_write.Statement.{statement}
 use Rattle.hex.proofs.calls.hex_write.Tie as tie
-use Rattle.hex.proofs.calls.hex_write.Reads as reads
-use Rattle.hex.proofs.calls.hex_write.Lts as lts
-use Rattle.hex.proofs.write.Reads as write-reads
 
--- src/calls.rt:11:11
-write-requires : tie.Need-write-requires
-write-requires c κs = search needs
+small : (c : tie.After-known-told) → c .before .n .given .0 .0 ≤ 22540
+small c =
+    let a = c .before .before .before .before .before .before .before .before .before .args in
+    most-written (a .code .now) (length (a .text .now)) (c .before .n .given .0 .0)
+    (sym (c .before .before .before .before .before .write .ensures .0) ∙ c .before .n .given .1)
 
--- src/calls.rt:12:23
-enum-known-n : tie.Need-enum-known-n
-enum-known-n c = search needs
-
--- src/calls.rt:12:29
-cast-result : tie.Need-cast-result
-cast-result c = ?
-
--- src/calls.rt:13:29
-enum-told : tie.Need-enum-told
-enum-told c = search needs
-
--- src/calls.rt:8:1
-same-length : tie.Need-same-length
-same-length c = search needs
-
--- src/calls.rt:8:1
 returns : tie.Need-returns
-returns c = ?
+returns c =
+    let w = c .before .before .before .before .before .write in
+    record {
+      returns = toZ-pos w32 (omega (arith, small c)) ∙ sym (ap writingBack (sym (w .ensures .0) ∙ c .before .n .given .1));
+      leaves = w .ensures .1;
+    }
 
--- src/calls.rt:8:1
-same-length-2 : tie.Need-same-length-2
-same-length-2 c = search needs
-
--- src/calls.rt:8:1
 returns-2 : tie.Need-returns-2
-returns-2 c = ?
+returns-2 c =
+    let w = c .before .before .before .before .write in
+    record { returns = sym (ap writingBack (sym (w .ensures .0) ∙ c .enum-told .given .1)); leaves = w .ensures .1 }
 
 pub hex-write-spec : {M : Type 1} → statement M
 hex-write-spec =
     tie.close
     (tie.spec
-    write-requires
-    enum-known-n
-    cast-result
-    enum-told
-    same-length
-    returns
-    same-length-2
-    returns-2)
+    (λ c κs. search needs) (λ c. search needs) (λ c. omega (arith, small c)) (λ c. search needs) (λ c. search needs) returns
+    (λ c. search needs) returns-2)
