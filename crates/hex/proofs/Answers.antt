@@ -64,14 +64,17 @@ module _ (old : List ℕ) where
       (rw (t, u) (ap Reading.Kernel (sym l)), rw (t, u) (put-first old code (length code) refl (omega arith)))
   taken-in (badRow k f) r n e g h l = never (cc)
 
--- no more bytes than a kernel may have are answered
-pub most-read : (x : Contents) (room n : ℕ) → readingBy x room ≡ Reading.Kernel n → n ≤ limit
-most-read (kernel code) room n e = go (leb (length code) limit) (leb (length code) room) refl e
+-- no more bytes are answered than a kernel may have, and than there is room for
+pub most-read : (x : Contents) (room n : ℕ) → readingBy x room ≡ Reading.Kernel n → (n ≤ limit) × (n ≤ room)
+most-read (kernel code) room n e = go (leb (length code) limit) (leb (length code) room) refl refl e
   where
-    go : (a b : Bool) → leb (length code) limit ≡ a → cond (a && b) (Reading.Kernel (length code)) Reading.BadSize ≡ Reading.Kernel n → n ≤ limit
-    go true true f g = let l : length code ≡ n = cc in omega (arith, leb-true (length code) limit f)
-    go true false f g = never (cc)
-    go false b f g = never (cc)
+    go : (a b : Bool) → leb (length code) limit ≡ a → leb (length code) room ≡ b
+        → cond (a && b) (Reading.Kernel (length code)) Reading.BadSize ≡ Reading.Kernel n → (n ≤ limit) × (n ≤ room)
+    go true true f g h =
+        let l : length code ≡ n = cc in
+        (omega (arith, leb-true (length code) limit f), omega (arith, leb-true (length code) room g))
+    go true false f g h = never (cc)
+    go false b f g h = never (cc)
 most-read (badRow k f) room n e = never (cc)
 
 -- nor more characters than the text of such a kernel has

@@ -1,9 +1,10 @@
-// The interface for C: decoding at an offset, encoding and a run, on numbers and byte slices. docs/c-interface.md has the layouts. A
+// The interface for C: decoding at an offset, encoding, a run and Intel HEX, on numbers and byte slices. docs/c-interface.md has the layouts. A
 // negative number is minus a refusal's. Any numbers and any lengths may be lent.
 ghost use Rattle.decodeat.specs.DecodeAt.{DecodesAt};
 ghost use Rattle.reedtassel.specs.EncodeForm.{EncodesForm};
 ghost use Rattle.runbytes.specs.RunBytes.{lentOf};
 ghost use Rattle.reedtassel.specs.Run.{RunsBytes};
+ghost use Rattle.hex.specs.Calls.{ReadsHex, WritesHex};
 
 use answers::returned;
 
@@ -30,4 +31,20 @@ pub extern "C" fn reedtassel_run(code: &[u8], registers: &mut [u8], uniforms: &[
         r (now (registers .exit)) (now (records .exit)) (now (answer .exit)) ⌝ }
 {
     returned::ended(runbytes::run(code, registers, uniforms, specials, start, mask, budget, records, answer))
+}
+
+// The kernel of a text in Intel HEX, and its length. Refused, the buffer is untouched; the number of a bad row is told.
+#[no_mangle]
+pub extern "C" fn reedtassel_hex_read(text: &[u8], code: &mut [u8], row: &mut [u8]) -> i32
+    ensures { λ r. ⌜ ReadsHex (now (text .entry)) (now (code .entry)) (now (row .entry)) r (now (code .exit)) (now (row .exit)) ⌝ }
+{
+    hex::calls::hex_read(text, code, row)
+}
+
+// A kernel as Intel HEX, and the length of the text. Refused, nothing is written.
+#[no_mangle]
+pub extern "C" fn reedtassel_hex_write(code: &[u8], text: &mut [u8]) -> i32
+    ensures { λ r. ⌜ WritesHex (now (code .entry)) (now (text .entry)) r (now (text .exit)) ⌝ }
+{
+    hex::calls::hex_write(code, text)
 }

@@ -23,7 +23,7 @@ kernel-read c = sym (c .before .before .before .before .before .read .ensures .0
 small : (c : tie.After-known-told) → c .before .n .given .0 .0 ≤ 8192
 small c =
     let a = c .before .before .before .before .before .before .before .before .before .before .args in
-    most-read (readOf (a .text .now)) (length (a .code .now)) (c .before .n .given .0 .0) (kernel-read c)
+    most-read (readOf (a .text .now)) (length (a .code .now)) (c .before .n .given .0 .0) (kernel-read c) .0
 
 returns : tie.Need-returns
 returns c =
