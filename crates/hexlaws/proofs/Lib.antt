@@ -1,0 +1,5 @@
+pub mod Spelling
+pub mod Rows
+pub mod Exactly
+pub mod Again
+pub mod Calls
