@@ -31,9 +31,20 @@ extern "C" {
         answer: *mut u8,
         answer_len: usize,
     ) -> i32;
+
+    pub fn reedtassel_hex_read(
+        text: *const u8,
+        text_len: usize,
+        code: *mut u8,
+        code_len: usize,
+        row: *mut u8,
+        row_len: usize,
+    ) -> i32;
+
+    pub fn reedtassel_hex_write(code: *const u8, code_len: usize, text: *mut u8, text_len: usize) -> i32;
 }
 
-// In all three, every pointer is a slice's own, with its length, and none of the slices that are written overlaps another.
+// In all of them, every pointer is a slice's own, with its length, and none of the slices that are written overlaps another.
 
 pub fn decode(code: &[u8], offset: usize, instruction: &mut [u8]) -> i32 {
     unsafe { reedtassel_decode(code.as_ptr(), code.len(), offset, instruction.as_mut_ptr(), instruction.len()) }
@@ -63,6 +74,15 @@ pub fn run(call: Call) -> i32 {
             call.answer.len(),
         )
     }
+}
+
+pub fn hex_read(text: &[u8], code: &mut [u8], row: &mut [u8]) -> i32 {
+    let (bytes, room) = (code.as_mut_ptr(), code.len());
+    unsafe { reedtassel_hex_read(text.as_ptr(), text.len(), bytes, room, row.as_mut_ptr(), row.len()) }
+}
+
+pub fn hex_write(code: &[u8], text: &mut [u8]) -> i32 {
+    unsafe { reedtassel_hex_write(code.as_ptr(), code.len(), text.as_mut_ptr(), text.len()) }
 }
 
 /// A run on words, for the outside vectors: they cross as bytes and come back.

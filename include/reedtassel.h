@@ -1,11 +1,11 @@
 /*
- * reedtassel.h: decodes, encodes and runs kernels of the G13 GPU.
+ * reedtassel.h: decodes, encodes and runs kernels of the G13 GPU, and reads and writes them as Intel HEX.
  *
  * Link libreedtassel.a (Linux on x86-64). A release has it in lib/; in the sources `./reedtassel lib` builds it.
  * docs/c-interface.md has worked examples, docs/byte-form.md the byte form of an instruction, docs/run.md what a run
  * does.
  *
- * What holds for all three functions:
+ * What holds for all five functions:
  *
  * - An answer below 0 is minus a refusal number (enum reedtassel_refusal), and the lowest that applies is given.
  * - A buffer is lent as a pointer and its length in bytes. Numbers in it are little-endian, and it may stand at any
@@ -43,17 +43,25 @@ extern "C" {
 #define REEDTASSEL_SPECIALS_MOST 256  /* for each thread, 0 allowed */
 #define REEDTASSEL_BUDGET_MOST 4096   /* steps, at least 1 */
 
+/* Intel HEX: bytes of a kernel, characters of the longest text that is written, bytes of the number of a row. */
+#define REEDTASSEL_HEX_CODE_MOST 8192
+#define REEDTASSEL_HEX_TEXT_MOST 22540
+#define REEDTASSEL_HEX_ROW_BYTES 8
+
 /* Why a call is refused; the answer is minus this number. */
 enum reedtassel_refusal {
-    REEDTASSEL_BAD_SIZE = 1,    /* a length, the offset, the budget or the start address is not as it must be */
-    REEDTASSEL_CUT_SHORT = 2,   /* the instruction is cut short: the input ends inside it */
-    REEDTASSEL_NO_DIAGRAM = 3,  /* no instruction that is built has these bytes */
-    REEDTASSEL_NO_MEANING = 4,  /* an operand or a condition of the instruction has no meaning */
-    REEDTASSEL_NO_REGISTER = 5, /* a register, or the second of a pair, is not lent */
-    REEDTASSEL_NO_SPECIAL = 6,  /* a special register is not lent */
-    REEDTASSEL_BAD_TARGET = 7,  /* a taken jump to an odd address, below 0 or above the code length */
-    REEDTASSEL_NO_ENCODING = 8, /* the bytes spell no instruction, or one that has no encoding */
-    REEDTASSEL_SHORT_BUFFER = 9 /* the buffer is shorter than the encoding */
+    REEDTASSEL_BAD_SIZE = 1,     /* a length, the offset, the budget or the start address is not as it must be */
+    REEDTASSEL_CUT_SHORT = 2,    /* the instruction is cut short: the input ends inside it */
+    REEDTASSEL_NO_DIAGRAM = 3,   /* no instruction that is built has these bytes */
+    REEDTASSEL_NO_MEANING = 4,   /* an operand or a condition of the instruction has no meaning */
+    REEDTASSEL_NO_REGISTER = 5,  /* a register, or the second of a pair, is not lent */
+    REEDTASSEL_NO_SPECIAL = 6,   /* a special register is not lent */
+    REEDTASSEL_BAD_TARGET = 7,   /* a taken jump to an odd address, below 0 or above the code length */
+    REEDTASSEL_NO_ENCODING = 8,  /* the bytes spell no instruction, or one that has no encoding */
+    REEDTASSEL_SHORT_BUFFER = 9, /* the buffer is shorter than the encoding */
+    REEDTASSEL_BAD_ROW = 12,     /* a row of Intel HEX is not as it has to be */
+    REEDTASSEL_BAD_SUM = 13,     /* the sum of the row is wrong */
+    REEDTASSEL_BAD_ORDER = 14    /* the row is out of place */
 };
 
 /* Which instruction, by its word in a listing: kind of struct reedtassel_instruction. */
@@ -215,6 +223,38 @@ int32_t reedtassel_run(const uint8_t *code, size_t code_len, uint8_t *registers,
                        const uint8_t *uniforms, size_t uniforms_len, const uint8_t *specials, size_t specials_len,
                        size_t start, uint32_t mask, size_t budget, uint8_t *records, size_t records_len,
                        uint8_t *answer, size_t answer_len);
+
+/*
+ * Reads a kernel from a text in Intel HEX, which may have any length. Rows are of type 00, with 0 to 255 bytes, in
+ * rising address order from 0 without a gap, then one end row, of type 01. Digits may be in either case. A line feed
+ * ends each row, and a carriage return may stand right before it.
+ *
+ * 0 and above: the number of bytes of the kernel. They are written to the first bytes of `code`, and nothing after
+ * them; `row` is untouched.
+ * -12, -13, -14: a row is bad. The first such row decides, and its lowest number is given:
+ * -12: the row is not as it has to be: no colon first, a character that is no hexadecimal digit, a length other than
+ * its count says, or no line feed.
+ * -13: the sum of the row is wrong.
+ * -14: the row is out of place: a gap or an overlap, a type other than 00 and 01, an end row with an address or data,
+ * no end row, or text after it. Text after the end row is always 14. If there is no end row, the bad row is the one
+ * after the last.
+ * `code` is then untouched. Where row_len is at least 8, the number of the row, counted from 1, is written to the first
+ * 8 bytes of `row`, and nothing after them: lend a uint64_t. Where row_len is below 8 it is not wanted, and `row` is
+ * untouched.
+ * -1: no row is bad, and the kernel has more than 8,192 bytes, or code_len is less than its length. Nothing is written.
+ */
+int32_t reedtassel_hex_read(const uint8_t *text, size_t text_len, uint8_t *code, size_t code_len, uint8_t *row,
+                            size_t row_len);
+
+/*
+ * Writes a kernel as a text in Intel HEX: rows of 16 bytes, fewer in the last, in upper case, each ended by a line
+ * feed, then the end row. Read again, the text gives the kernel back.
+ *
+ * Above 0: the number of characters, 12 to 22,540. They are written to the first bytes of `text`, without a zero byte,
+ * and nothing after them.
+ * -1: code_len is above 8,192, or text_len is less than the number of characters. Nothing is written.
+ */
+int32_t reedtassel_hex_write(const uint8_t *code, size_t code_len, uint8_t *text, size_t text_len);
 
 #ifdef __cplusplus
 }

@@ -4,10 +4,13 @@ use super::compare::compare as compared;
 use super::decode::decode as decoded;
 use super::encode::encode as encoded;
 use super::form::{Fields, FORM_BYTES};
+use super::hex::{read, write, MOST_CODE};
 use super::run::{run as words_run, Answer, Ending};
 
 /// The bytes of a run's answer.
 pub const ANSWER_BYTES: usize = 24;
+/// The bytes of the number of a row.
+pub const ROW_BYTES: usize = 8;
 
 /// What is lent to a run, registers, uniforms and special registers as little-endian bytes.
 pub struct Call<'a> {
@@ -79,6 +82,36 @@ pub fn compare(first: &[u8], second: &[u8], line: &mut [u8]) -> i32 {
             room.copy_from_slice(text.as_bytes());
             text.len() as i32
         }
+    }
+}
+
+/// Reads a kernel from Intel HEX: its length, with its bytes at the start of `code`, or minus a refusal. With 12 to 14 the number of the
+/// bad row is at the start of `row`, if it has room; otherwise nothing is written.
+pub fn hex_read(text: &[u8], code: &mut [u8], row: &mut [u8]) -> i32 {
+    match read(text) {
+        Err(bad) => {
+            if let Some(number) = row.get_mut(..ROW_BYTES) {
+                number.copy_from_slice(&(bad.row as u64).to_le_bytes());
+            }
+            -(bad.fault.refusal() as i32)
+        }
+        Ok(kernel) if kernel.len() > MOST_CODE || kernel.len() > code.len() => -1,
+        Ok(kernel) => {
+            code[..kernel.len()].copy_from_slice(&kernel);
+            kernel.len() as i32
+        }
+    }
+}
+
+/// Writes a kernel as Intel HEX: the length of the text, which stands at the start of `text`, or -1 where the kernel is too long or the
+/// text has no room there.
+pub fn hex_write(code: &[u8], text: &mut [u8]) -> i32 {
+    match write(code) {
+        Some(written) if written.len() <= text.len() => {
+            text[..written.len()].copy_from_slice(&written);
+            written.len() as i32
+        }
+        _ => -1,
     }
 }
 

@@ -1,11 +1,11 @@
-//! The plain Rust program: decoding, encoding, runs and comparisons of G13 kernels as 01 and the change requests define them, written
-//! from these and document 002 and from nothing else of this repository. The proved program is timed against it and compared with it,
-//! and the outside vectors are run through it.
+//! The plain Rust program: decoding, encoding, runs and comparisons of G13 kernels, and kernels as Intel HEX, as 01 and the change
+//! requests define them, written from these and document 002 and from nothing else of this repository. The proved program is timed
+//! against it and compared with it, and the outside vectors are run through it.
 //!
 //! `find` and `decode` read an instruction, `operand` says what its operands are. `form` has the byte form, `fields` makes it of a
 //! decoded instruction, `encode` makes an encoding of it. `lanes` reads and writes the 32 threads of an operand, `sums`, `bits` and
-//! `masks` have the arithmetic, `step` does one instruction and `run` a whole run. `compare` compares two kernels. `calls` has the calls
-//! of the C interface.
+//! `masks` have the arithmetic, `step` does one instruction and `run` a whole run. `compare` compares two kernels. `hex` reads and writes
+//! kernels as text. `calls` has the calls of the C interface.
 
 mod bits;
 pub mod calls;
@@ -15,6 +15,7 @@ pub mod encode;
 mod fields;
 pub mod find;
 pub mod form;
+pub mod hex;
 mod lanes;
 mod masks;
 pub mod operand;

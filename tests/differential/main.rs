@@ -1,6 +1,6 @@
 //! Compares the exported functions of the proved program with the plain Rust program, on random and damaged instructions, on random
-//! runs, on runs that come back to addresses and on pairs of kernels: every answer, and every byte of every buffer. What is lent lies
-//! against pages that nobody may touch.
+//! runs, on runs that come back to addresses, on pairs of kernels and on texts of Intel HEX: every answer, and every byte of every
+//! buffer. What is lent lies against pages that nobody may touch.
 //!
 //! The arguments are a factor for the number of cases and a seed; with the same two the cases are the same. With `--named`
 //! before them each case is named before it is tried.
@@ -24,6 +24,16 @@ mod encoding;
 #[allow(dead_code)]
 mod exported;
 mod guarded;
+mod hexbad;
+mod hexdamage;
+mod hexevery;
+mod hexgood;
+mod hexreading;
+mod hexrows;
+mod hexsaid;
+mod hexscratched;
+mod hextexts;
+mod hexwriting;
 mod instructions;
 mod kernels;
 mod nulls;
@@ -51,6 +61,9 @@ const REVISITS: u64 = 256;
 const COMPARED: u64 = 61_440;
 /// The encodings of each form in which every bit is turned round.
 const TURNED: u64 = 20;
+/// Texts of Intel HEX, and kernels to write.
+const READ: u64 = 40_960;
+const WRITTEN: u64 = 6_144;
 const SEED: u64 = 20_260;
 
 fn main() {
@@ -67,5 +80,7 @@ fn main() {
     running::compare(&mut report, seed, cases(RUNS));
     revisits::compare(&mut report, seed, cases(REVISITS));
     comparing::compare(&mut report, seed, cases(COMPARED), cases(TURNED));
+    hexreading::compare(&mut report, seed, cases(READ));
+    hexwriting::compare(&mut report, seed, cases(WRITTEN));
     std::process::exit(if report.end() { 0 } else { 1 });
 }

@@ -1,6 +1,7 @@
 //! NULL where a length is 0: what each call answers, by the words of the interface.
 
 use crate::exported::{reedtassel_decode, reedtassel_encode, reedtassel_run};
+use crate::exported::{reedtassel_hex_read, reedtassel_hex_write};
 use crate::plain::calls::ANSWER_BYTES;
 use crate::report::Report;
 use std::ptr::{null, null_mut};
@@ -30,6 +31,29 @@ fn run_of_nothing() -> i32 {
     unsafe { reedtassel_run(bytes, 0, room, 0, bytes, 0, bytes, 0, 0, 1, 1, room, 0, room, 0) }
 }
 
+/// Calls for Intel HEX, and what each must answer.
+fn hex() -> [(&'static str, i32, i32); 9] {
+    let text = |text: &'static str| (text.as_ptr(), text.len());
+    let (end, bad) = (text(":00000001FF\n"), text(":00000001FE\n"));
+    let byte = text(":01000000629D\n:00000001FF\n");
+    let (mut code, mut row, mut room) = ([0u8; 8], [0u8; 8], [0u8; 12]);
+    let (code, row, to) = (code.as_mut_ptr(), row.as_mut_ptr(), room.as_mut_ptr());
+    // NULL comes with length 0 alone
+    unsafe {
+        [
+            ("hex read, no text", reedtassel_hex_read(null(), 0, code, 8, row, 8), -14),
+            ("hex read, nothing at all", reedtassel_hex_read(null(), 0, null_mut(), 0, null_mut(), 0), -14),
+            ("hex read, no buffers", reedtassel_hex_read(end.0, end.1, null_mut(), 0, null_mut(), 0), 0),
+            ("hex read, a bad row alone", reedtassel_hex_read(bad.0, bad.1, null_mut(), 0, null_mut(), 0), -13),
+            ("hex read, no buffer for a kernel", reedtassel_hex_read(byte.0, byte.1, null_mut(), 0, row, 8), -1),
+            ("hex read, no buffer for a row", reedtassel_hex_read(byte.0, byte.1, code, 8, null_mut(), 0), 1),
+            ("hex write, no code", reedtassel_hex_write(null(), 0, to, 12), 12),
+            ("hex write, no code and no buffer", reedtassel_hex_write(null(), 0, null_mut(), 0), -1),
+            ("hex write, no buffer", reedtassel_hex_write(MOV16.as_ptr(), MOV16.len(), null_mut(), 0), -1),
+        ]
+    }
+}
+
 pub fn compare(report: &mut Report) {
     let (code, form) = (MOV16.as_ptr(), mov16());
     let mut room = [0u8; 48];
@@ -49,6 +73,7 @@ pub fn compare(report: &mut Report) {
             ("run, nothing at all", run_of_nothing(), -1),
         ]
     };
+    let answers = [&answers[..], &hex()].concat();
     report.compare("NULL where the length is 0", answers.len() as u64, |number| {
         let (what, got, want) = answers[number as usize];
         (got != want).then(|| format!("{what}: {got} and not {want}"))
