@@ -1,5 +1,5 @@
 -- What reading answers and leaves, by what was seen of the text; how large an answer can be.
-use mathlib.Core.Path.{_≡_, refl, sym, ap, _∙_}
+use mathlib.Core.Path.{_≡_, refl, sym, ap}
 use mathlib.Core.Bool.{Bool, true, false, cond, _&&_}
 use mathlib.Core.List.{List}
 use Prim.Native.Nat.{ℕ, _≤_, _<_}
@@ -9,6 +9,7 @@ use lib.ListN.{length}
 use lib.Seq.{sets}
 use borrow.Author.Tests.{le-leb, lt-leb, leb-true}
 use Rattle.bits.proofs.Pieces.{put-first}
+use Rattle.hexrow.proofs.Told.{never}
 use Rattle.hexrow.specs.declared.Fault.{Fault}
 use Rattle.hex.specs.Read.{Contents, kernel, badRow, limit, readingBy, leftBy}
 use Rattle.hex.specs.Rows.{seenBy, kernelIn}
@@ -16,9 +17,6 @@ use Rattle.hex.specs.Write.{hexOf, writingOf}
 use Rattle.hex.specs.declared.Reading.{Reading}
 use Rattle.hex.specs.declared.Writing.{Writing}
 use Rattle.hex.proofs.Written.{length-hex}
-
-never : {A : Type 0} → _≡_ {A = ℕ} 0 1 → A
-never e = absurd (omega arith)
 
 -- an answer that is given, with what then stands in the buffer
 abbrev pub Given : Contents → List ℕ → Reading → List ℕ → Type 0

@@ -1,6 +1,6 @@
 -- A text of 65,536 characters has room for that of every kernel that is not too long: the call on such a text.
-use mathlib.Core.Path.{_≡_, refl, sym, ap, _∙_}
-use mathlib.Core.Bool.{Bool, true, false, cond, _&&_}
+use mathlib.Core.Path.{_≡_, refl, ap, _∙_}
+use mathlib.Core.Bool.{Bool, true, false, cond}
 use mathlib.Core.List.{List, [], _++_}
 use Prim.Native.Nat.{ℕ, _≤_}
 use native.Mathlib.Omega.{arith}
@@ -8,13 +8,11 @@ use lib.Dec.{leb}
 use lib.ListN.{length, take, drop, length-append}
 use lib.Seq.{take-append-seam}
 use borrow.Author.Tests.{leb-true, le-leb}
+use Rattle.hexrow.proofs.Told.{never}
 use Rattle.hex.specs.Read.{limit}
 use Rattle.hex.specs.Write.{hexOf, writingOf, textLeft}
 use Rattle.hex.specs.declared.Writing.{Writing}
 use Rattle.hex.proofs.Written.{length-hex}
-
-never : {A : Type 0} → _≡_ {A = ℕ} 0 1 → A
-never e = absurd (omega arith)
 
 -- the text of a kernel, or nothing
 abbrev pub Shows : List ℕ → ℕ → List ℕ → Type 0

@@ -14,8 +14,8 @@ use Rattle.hexrow.specs.declared.Fault.{Fault}
 use Rattle.hexrow.specs.Reads.{rowAt}
 use Rattle.hexrow.specs.declared.Row.{Row}
 use Rattle.hexrow.proofs.Rows.{length-spelled}
-use Rattle.hexrow.proofs.Told.{IsData, data-row, end-row, bad-row}
-use Rattle.hex.specs.Read.{linesOf, Contents, kernel, badRow, onRow, nothingAfter, readRows, readOf}
+use Rattle.hexrow.proofs.Told.{never, IsData, data-row, end-row, bad-row}
+use Rattle.hex.specs.Read.{linesOf, kernel, badRow, onRow, nothingAfter, readRows, readOf}
 use Rattle.hex.proofs.Lines.{lines-first, line-within}
 
 -- the rows before `at` are right, and hold the bytes of code
@@ -118,9 +118,6 @@ module _ (text : List ℕ) (at row n : ℕ) (h : at < length text) (w : Known te
       refused text at row (w .code) h (w .reached) f (bad-row (length (w .code)) (drop at text) f (of-code (Row.Bad f) e))
 
 -- ---- a text that holds a kernel
-
-never : {A : Type 0} → _≡_ {A = ℕ} 0 1 → A
-never e = absurd (omega arith)
 
 -- the bytes so far are no more than those of the kernel
 grows : (lines : List (List ℕ)) (row : ℕ) (code all : List ℕ) → readRows row code lines ≡ kernel all → length code ≤ length all

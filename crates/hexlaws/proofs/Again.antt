@@ -1,25 +1,24 @@
 -- What is written is read again: the text of a kernel holds that kernel, and no two kernels have one text.
 use mathlib.Core.Path.{_≡_, refl, sym, ap, _∙_}
-use mathlib.Core.Bool.{Bool, true, false, cond}
+use mathlib.Core.Bool.{Bool, true, false}
 use mathlib.Core.List.{List, [], _∷_, _++_, append-assoc, append-nil}
 use Prim.Native.Nat.{ℕ, zero, suc, _+_, _*_, _-_, _/_, _%_, _≤_, _<_}
 use native.Mathlib.Omega.{arith}
 use lib.Dec.{leb, ltb}
 use lib.IntN.{ℤ, pos, negℤ}
-use lib.ListN.{length, getD, take, drop, length-append, length-take, length-drop, take-append-drop}
+use lib.ListN.{length, take, drop, length-append, length-take, length-drop, take-append-drop}
 use lib.Seq.{take-append-seam}
-use borrow.Author.Tests.{lt-ltb, le-ltb, ltb-true, ltb-false, le-leb, leb-true}
+use borrow.Author.Tests.{ltb-true, ltb-false, le-leb, leb-true}
 use Rattle.bits.proofs.Laws.{Bytes, bytes-take, bytes-drop}
 use Rattle.isa.specs.Text.{ascii}
 use Rattle.digits.specs.Digits.{digit, hexBytes}
 use Rattle.hexrow.specs.Row.{total, dataOf}
 use Rattle.hexrow.specs.Write.{sumFor, headOf, withSum, rowFor, endRow}
 use Rattle.hex.specs.Read.{kernel, limit, readOf, readingOf, kernelLeft}
-use Rattle.hex.specs.Write.{rowsFrom, hexOf, writingOf}
-use Rattle.hex.specs.Calls.{readingBack, writingBack, rowLeft, ReadsHex, WritesHex}
+use Rattle.hex.specs.Write.{rowsFrom, hexOf}
+use Rattle.hex.specs.Calls.{readingBack, rowLeft, ReadsHex, WritesHex}
 use Rattle.hex.specs.declared.Reading.{Reading}
-use Rattle.hex.specs.declared.Writing.{Writing}
-use Rattle.hexlaws.specs.Form.{Digit, decimal, upper, Spells, none, pair, LineEnd, feed, IsRow, RightSum, IsData, IsEnd, DataRows, Holds, whole}
+use Rattle.hexlaws.specs.Form.{Digit, decimal, upper, Spells, none, pair, feed, IsRow, RightSum, DataRows, Holds, whole}
 use Rattle.hexlaws.proofs.Exactly.{right}
 
 -- ---- a row

@@ -1,21 +1,16 @@
 -- What the call answers, in exactly its cases: `answered` from the case to the answer, `answers` from the answer to the case.
-use mathlib.Core.Path.{_≡_, refl, sym, ap, _∙_}
+use mathlib.Core.Path.{_≡_, refl, ap, _∙_}
 use mathlib.Core.Bool.{Bool, true, false, cond, _&&_}
 use mathlib.Core.List.{List}
 use mathlib.Core.Logic.{_⊎_, inl, inr}
-use Prim.Native.Nat.{ℕ, _≤_, _<_}
-use native.Mathlib.Omega.{arith}
+use Prim.Native.Nat.{ℕ, _<_}
 use lib.Dec.{leb}
 use lib.ListN.{length}
 use borrow.Author.Tests.{le-leb, lt-leb, leb-true, leb-false}
-use Rattle.hexrow.specs.declared.Fault.{Fault}
 use Rattle.hex.specs.Read.{Contents, kernel, badRow, limit, readOf, readingBy, readingOf, leftBy, kernelLeft}
 use Rattle.hex.specs.declared.Reading.{Reading}
 use Rattle.hexlaws.specs.Form.{Holds, Answers, took, noSize, noForm}
 use Rattle.hexlaws.proofs.Exactly.{right, always}
-
-never : {A : Type 0} → _≡_ {A = ℕ} 0 1 → A
-never e = absurd (omega arith)
 
 too-large : (code : List ℕ) (room : ℕ) → (limit < length code) ⊎ (room < length code) → readingBy (kernel code) room ≡ Reading.BadSize
 too-large code room (inl h) = rw (lt-leb (length code) limit h)

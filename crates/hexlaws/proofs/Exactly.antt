@@ -1,23 +1,20 @@
 -- Each kernel and each refusal is given in exactly its cases: `right` from the case to what reading finds, `always` from what it finds to the
 -- case.
 use mathlib.Core.Path.{_≡_, refl, sym, ap, _∙_}
-use mathlib.Core.Bool.{Bool, true, false, cond, _&&_}
+use mathlib.Core.Bool.{Bool, true, false, _&&_}
 use mathlib.Core.List.{List, [], _∷_, _++_, append-assoc, append-nil}
 use mathlib.Core.Logic.{_⊎_, inl, inr}
-use Prim.Native.Nat.{ℕ, zero, suc, _+_, _%_, _≤_, _<_}
+use Prim.Native.Nat.{ℕ, suc, _+_, _%_, _<_}
 use native.Mathlib.Omega.{arith}
 use lib.Dec.{eqb}
 use lib.ListN.{length, getD, drop}
 use borrow.Author.Tests.{eq-eqb, ne-eqb, eqb-true, eqb-false}
+use Rattle.hexrow.proofs.Told.{never}
 use Rattle.hexrow.specs.Row.{fault, bytesIn, formed, total, addressOf, typeOf, dataOf, Says, holds, ends, bad, summed, saysOf, lineOf}
-use Rattle.hexrow.specs.declared.Fault.{Fault}
-use Rattle.hex.specs.Read.{linesOf, Contents, kernel, badRow, onRow, nothingAfter, readRows, readOf}
+use Rattle.hex.specs.Read.{linesOf, Contents, badRow, onRow, nothingAfter, readRows, readOf}
 use Rattle.hex.proofs.Lines.{lines-first}
 use Rattle.hexlaws.specs.Form.{IsRow, RightSum, IsData, IsEnd, DataRows, Holds, whole, noRow, wrongSum, misplaced, noEnd, followed}
-use Rattle.hexlaws.proofs.Rows.{row-formed, row-bytes, formed-row, row-line, row-lines, line-splits}
-
-never : {A : Type 0} → _≡_ {A = ℕ} 0 1 → A
-never e = absurd (omega arith)
+use Rattle.hexlaws.proofs.Rows.{row-formed, row-bytes, formed-row, row-lines, line-splits}
 
 -- ---- the tests of the definition, and the statements
 

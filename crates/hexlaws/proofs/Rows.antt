@@ -3,11 +3,11 @@ use mathlib.Core.Path.{_≡_, refl, sym, ap, _∙_}
 use mathlib.Core.Bool.{Bool, true, false, cond, _&&_, _||_}
 use mathlib.Core.List.{List, [], _∷_, _++_, append-assoc}
 use mathlib.Core.Logic.{_⊎_, inl, inr}
-use Prim.Native.Nat.{ℕ, zero, suc, _+_, _*_, _-_, _%_, _≤_, _<_}
+use Prim.Native.Nat.{ℕ, zero, suc, _+_, _*_, _-_, _<_}
 use native.Mathlib.Omega.{arith}
 use lib.Dec.{eqb}
 use lib.ListN.{length, getD, take, drop, take-append-drop, length-append}
-use lib.Seq.{drop-at, drop-append-seam}
+use lib.Seq.{drop-append-seam}
 use borrow.Author.Tests.{eqb-true, ne-eqb}
 use Rattle.bits.specs.Lists.{eqList}
 use Rattle.bits.proofs.Lists.{eqList-is}
@@ -16,7 +16,7 @@ use Rattle.hexrow.specs.Row.{pairValue, pairs, spelled, isEnd, countIn, bytesIn
 use Rattle.hexrow.proofs.Rows.{length-spelled}
 use Rattle.hex.specs.Read.{linesOf}
 use Rattle.hex.proofs.Lines.{lines-first}
-use Rattle.hexlaws.specs.Form.{Digit, Spells, none, pair, LineEnd, feed, returned, IsRow}
+use Rattle.hexlaws.specs.Form.{Spells, none, pair, LineEnd, feed, returned, IsRow}
 use Rattle.hexlaws.proofs.Spelling.{no-feed, spells-pairs, pairs-spell}
 
 -- ---- the end of a line

@@ -1,15 +1,13 @@
 -- Digits and pairs of digits: the statements and the numbers of the definition of reading say the same.
-use mathlib.Core.Path.{_≡_, refl, sym, ap, _∙_}
+use mathlib.Core.Path.{_≡_, refl}
 use mathlib.Core.Bool.{Bool, true, false, cond, _&&_}
 use mathlib.Core.List.{List, [], _∷_, _++_}
 use Prim.Native.Nat.{ℕ, zero, suc, _+_, _*_, _-_, _≤_, _<_}
-use native.Mathlib.Nat.{not-suc-le-zero, le-of-suc-le-suc}
 use native.Mathlib.Omega.{arith}
-use lib.Dec.{leb, ltb}
-use lib.ListN.{length, getD, take, drop}
-use borrow.Author.Tests.{le-leb, lt-leb, leb-true, leb-false, lt-ltb}
-use Rattle.bits.proofs.Table.{and-left, and-right}
-use Rattle.hexrow.specs.Row.{digitValue, pairValue, pairs, spelled}
+use lib.Dec.{leb}
+use lib.ListN.{length, take}
+use borrow.Author.Tests.{le-leb, lt-leb, leb-true, lt-ltb}
+use Rattle.hexrow.specs.Row.{digitValue, pairs, spelled}
 use Rattle.hexrow.proofs.Lines.{first-pair}
 use Rattle.hexlaws.specs.Form.{Digit, decimal, upper, lower, Spells, none, pair}
 

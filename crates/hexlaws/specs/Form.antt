@@ -1,5 +1,6 @@
 -- The form of Intel HEX as statements, each by itself, without an order of tests: what a row is, which text holds a kernel, which row is bad and
--- why. Follows "Kernels arrive as Intel HEX" of the change requests; no definition of reading stands behind it.
+-- why. Follows "Kernels arrive as Intel HEX" of the change requests. Of the definition of reading it takes the fields of a row's bytes and the
+-- first line of a text, and no test.
 use Prim.Native.Nat.{ℕ, suc, _+_, _*_, _%_, _≤_, _<_}
 use mathlib.Core.Path.{_≡_}
 use mathlib.Core.List.{List, [], _∷_, _++_}

@@ -1,13 +1,13 @@
 -- The first line of a text, and what stands at the start of the text: pairs of digits and the end of a line are the same in both.
 use mathlib.Core.Path.{_≡_, refl, sym, ap, _∙_}
-use mathlib.Core.Bool.{Bool, true, false, cond, _&&_, _||_}
+use mathlib.Core.Bool.{Bool, true, false, cond, _&&_}
 use mathlib.Core.List.{List, [], _∷_}
-use Prim.Native.Nat.{ℕ, zero, suc, _+_, _*_, _≤_, _<_}
+use Prim.Native.Nat.{ℕ, zero, suc, _+_, _*_, _<_}
 use native.Mathlib.Omega.{arith}
 use lib.Dec.{eqb, ltb}
 use lib.ListN.{length, getD, drop}
 use lib.Seq.{drop-drop}
-use borrow.Author.Tests.{eq-eqb, ne-eqb, eqb-true, eqb-false, le-ltb, ltb-true}
+use borrow.Author.Tests.{ne-eqb, eqb-true, eqb-false, le-ltb, ltb-true}
 use Rattle.bits.specs.Lists.{eqList}
 use Rattle.bits.proofs.Table.{and-left, and-right}
 use Rattle.hexrow.specs.Row.{digitValue, pairValue, pairs, spelled, isEnd, lineOf}
@@ -103,13 +103,6 @@ after-line (suc n) s e =
 
 pub same-count : (s : List ℕ) → pairValue s < 256 → pairValue (lineOf s) ≡ pairValue s
 same-count s h = pair-line s (no-feed s h)
-
--- n pairs have 2 * n characters
-pub pairs-length : (n : ℕ) (s : List ℕ) → pairs n s ≡ true → 2 * n ≤ length s
-pairs-length zero s e = omega arith
-pairs-length (suc n) [] e = let f = first-pair n [] e in absurd (omega arith)
-pairs-length (suc n) (c ∷ []) e = let f = first-pair n (c ∷ []) e in absurd (omega arith)
-pairs-length (suc n) (c ∷ d ∷ s) e = let h = pairs-length n s (first-pair n (c ∷ d ∷ s) e .1) in omega arith
 
 -- ---- the end of a line
 

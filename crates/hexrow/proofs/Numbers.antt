@@ -1,6 +1,6 @@
 -- Each number of the change request has a refusal of a row, and that refusal has this number.
 use mathlib.Core.Path.{_≡_, refl}
-use mathlib.Core.List.{List, [], _∷_, map}
+use mathlib.Core.List.{[], _∷_, map}
 use Prim.Native.Nat.{ℕ}
 use Rattle.hexrow.specs.Row.{faultNumber, fault}
 use Rattle.hexrow.specs.declared.Fault.{Fault}

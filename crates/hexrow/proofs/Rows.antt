@@ -2,19 +2,19 @@
 use mathlib.Core.Path.{_≡_, refl, sym, ap, _∙_}
 use mathlib.Core.Bool.{Bool, true, false, cond, _&&_}
 use mathlib.Core.List.{List, [], _∷_}
-use Prim.Native.Nat.{ℕ, zero, suc, _+_, _*_, _-_, _%_, _≤_, _<_}
+use Prim.Native.Nat.{ℕ, zero, suc, _+_, _*_, _-_, _≤_, _<_}
 use native.Mathlib.Nat.{zero-add}
 use native.Mathlib.Omega.{arith}
 use lib.Dec.{eqb, ltb}
-use lib.ListN.{length, getD, take, drop, length-take, length-drop, drop-of-length-le}
-use lib.Seq.{drop-drop, take-all}
+use lib.ListN.{length, getD, take, drop, length-drop, drop-of-length-le}
+use lib.Seq.{drop-drop}
 use borrow.Author.Tests.{eq-eqb, ne-eqb, eqb-true, lt-ltb, le-ltb, ltb-true}
 use Rattle.bits.proofs.Table.{and-left, and-right}
-use Rattle.hexrow.specs.Row.{fault, pairValue, pairs, spelled, isEnd, countIn, bytesIn, formed, total, addressOf, typeOf, dataOf, Says, holds, ends, bad, placed, summed, saysOf, lineOf}
+use Rattle.hexrow.specs.Row.{fault, pairValue, pairs, spelled, isEnd, countIn, bytesIn, formed, addressOf, typeOf, dataOf, holds, ends, bad, placed, summed, saysOf, lineOf}
 use Rattle.hexrow.specs.Reads.{endSize, sizeBy, saysBy, told, rowAt}
 use Rattle.hexrow.specs.declared.Row.{Row}
 use Rattle.hexrow.specs.declared.Fault.{Fault}
-use Rattle.hexrow.proofs.Lines.{head-line, tail-line, pairs-line, first-pair, spelled-line, after-line, same-count, pairs-length, end-line}
+use Rattle.hexrow.proofs.Lines.{head-line, tail-line, pairs-line, first-pair, spelled-line, after-line, same-count, end-line}
 
 -- the count of a row at the start of a text, and the number of its characters before the end of the line
 abbrev pub count : List ℕ → ℕ

@@ -2,7 +2,7 @@
 use mathlib.Core.Path.{_≡_, refl, sym, ap, _∙_}
 use mathlib.Core.Bool.{Bool, true, false, cond, _&&_}
 use mathlib.Core.List.{List}
-use Prim.Native.Nat.{ℕ, zero, suc, _+_, _*_, _%_, _≤_, _<_}
+use Prim.Native.Nat.{ℕ, zero, suc, _+_, _*_, _%_, _≤_}
 use native.Mathlib.Nat.{zero-add}
 use native.Mathlib.Omega.{arith}
 use lib.Dec.{eqb}
@@ -10,13 +10,14 @@ use lib.ListN.{length, getD, drop}
 use lib.Seq.{drop-drop}
 use borrow.Author.Tests.{lt-ltb}
 use Rattle.hexrow.specs.Row.{fault, pairValue, pairs, spelled, formed, total, addressOf, typeOf, dataOf, Says, holds, ends, bad, summed, saysOf, lineOf}
-use Rattle.hexrow.specs.Reads.{endSize, told, rowAt}
+use Rattle.hexrow.specs.Reads.{told, rowAt}
 use Rattle.hexrow.specs.declared.Row.{Row}
 use Rattle.hexrow.specs.declared.Fault.{Fault}
 use Rattle.hexrow.proofs.Lines.{first-pair}
-use Rattle.hexrow.proofs.Rows.{count, body, At, at-formed, at-says, line-length, length-spelled, data-at}
+use Rattle.hexrow.proofs.Rows.{count, At, at-formed, at-says, line-length, length-spelled, data-at}
 
-never : {A : Type 0} → _≡_ {A = ℕ} 0 1 → A
+-- from two constructors that would be equal
+pub never : {A : Type 0} → _≡_ {A = ℕ} 0 1 → A
 never e = absurd (omega arith)
 
 -- ---- the answer taken back

@@ -1,8 +1,8 @@
 -- What the functions of this crate answer of a row that stands at the start of a text.
 use Prim.Native.Nat.{ℕ, _+_, _*_, _%_}
-use mathlib.Core.Bool.{Bool, cond, _&&_}
+use mathlib.Core.Bool.{cond, _&&_}
 use mathlib.Core.List.{List}
-use lib.Dec.{eqb, leb, ltb}
+use lib.Dec.{eqb, ltb}
 use lib.ListN.{length, getD, drop}
 use Rattle.hexrow.specs.Row.{fault, Says, holds, ends, bad, pairs, pairValue, spelled, total, saysOf, lineOf}
 use Rattle.hexrow.specs.declared.Row.{Row}

@@ -1,10 +1,8 @@
 -- The whole text is seen before anything is written: a bad row, a kernel that is too long or has no room, or one that is taken.
 use mathlib.Core.Path.{_∙_}
 use native.Mathlib.Omega.{arith}
-use lib.Seq.{sets}
 use borrow.Author.Needs.{needs}
 use Rattle.hex.specs.Read.{readOf}
-use Rattle.hex.specs.Rows.{kernelIn}
 use Rattle.hex.proofs.Answers.{bad-given, size-given, too-long, no-room, is-kernel, taken-in}
 use Rattle.hex.proofs.read.Statement.{statement}
 use Rattle.hex.proofs.read.Tie as tie

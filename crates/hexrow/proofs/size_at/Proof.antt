@@ -1,9 +1,9 @@
 -- A row by its colon, its count and its end: the tests of the code are those of the definition, from the row's place on.
-use mathlib.Core.Path.{_≡_, refl, sym, ap, _∙_}
+use mathlib.Core.Path.{_≡_, sym, ap, _∙_}
 use mathlib.Core.List.{List}
-use Prim.Native.Nat.{ℕ, _+_, _*_, _≤_, _<_}
+use Prim.Native.Nat.{ℕ, _+_, _*_}
 use native.Mathlib.Omega.{arith}
-use lib.ListN.{length, getD, drop, length-drop}
+use lib.ListN.{getD, drop, length-drop}
 use lib.Seq.{drop-drop}
 use borrow.Author.Needs.{needs}
 use Rattle.hexrow.specs.Row.{pairValue}

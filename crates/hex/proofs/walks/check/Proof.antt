@@ -1,10 +1,9 @@
 -- The rows so far hold as many bytes as are counted; the row at hand goes on, or decides.
-use mathlib.Core.Path.{_≡_, refl, sym, ap, _∙_}
-use Prim.Native.Nat.{ℕ, _+_, _*_, _-_, _≤_}
+use mathlib.Core.Path.{sym, ap, _∙_}
+use Prim.Native.Nat.{_+_, _*_, _-_, _≤_}
 use native.Mathlib.Omega.{arith}
 use lib.ListN.{length}
 use borrow.Author.Needs.{needs}
-use Rattle.hexrow.specs.declared.Fault.{Fault}
 use Rattle.hex.specs.declared.Reading.{Reading}
 use Rattle.hex.specs.Rows.{seenBy}
 use Rattle.hex.proofs.Steps.{Known, known-first, known-more, room-for, end-within, whole, not-whole, bad-at, ran-out}

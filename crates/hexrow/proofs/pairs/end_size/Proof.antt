@@ -1,10 +1,9 @@
 -- Past the end of the text stands nothing, which is no character of the end of a line.
-use mathlib.Core.Path.{_≡_, _∙_}
-use Prim.Native.Nat.{ℕ, _+_}
+use Prim.Native.Nat.{_+_}
 use native.Mathlib.Omega.{arith}
-use lib.ListN.{getD, drop, List·getD-eq-default}
+use lib.ListN.{getD, List·getD-eq-default}
 use lib.Seq.{getD-drop}
-use borrow.Author.Tests.{eq-eqb, ne-eqb}
+use borrow.Author.Tests.{ne-eqb}
 use borrow.Author.Needs.{needs}
 use Rattle.hexrow.proofs.Digits.{head-drop}
 use Rattle.hexrow.proofs.pairs.end_size.Statement.{statement}
