@@ -13,10 +13,11 @@ use Rattle.hexrow.proofs.Told.{never}
 use Rattle.hexrow.specs.declared.Fault.{Fault}
 use Rattle.hex.specs.Read.{Contents, kernel, badRow, limit, readingBy, leftBy}
 use Rattle.hex.specs.Rows.{seenBy, kernelIn}
-use Rattle.hex.specs.Write.{hexOf, writingOf}
+use Rattle.hexwrite.specs.Write.{hexOf}
+use Rattle.hex.specs.Write.{writingOf}
 use Rattle.hex.specs.declared.Reading.{Reading}
 use Rattle.hex.specs.declared.Writing.{Writing}
-use Rattle.hex.proofs.Written.{length-hex}
+use Rattle.hexwrite.proofs.Written.{length-hex}
 
 -- an answer that is given, with what then stands in the buffer
 abbrev pub Given : Contents → List ℕ → Reading → List ℕ → Type 0

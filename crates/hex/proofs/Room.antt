@@ -10,9 +10,10 @@ use lib.Seq.{take-append-seam}
 use borrow.Author.Tests.{leb-true, le-leb}
 use Rattle.hexrow.proofs.Told.{never}
 use Rattle.hex.specs.Read.{limit}
-use Rattle.hex.specs.Write.{hexOf, writingOf, textLeft}
+use Rattle.hexwrite.specs.Write.{hexOf}
+use Rattle.hex.specs.Write.{writingOf, textLeft}
 use Rattle.hex.specs.declared.Writing.{Writing}
-use Rattle.hex.proofs.Written.{length-hex}
+use Rattle.hexwrite.proofs.Written.{length-hex}
 
 -- the text of a kernel, or nothing
 abbrev pub Shows : List ℕ → ℕ → List ℕ → Type 0

@@ -5,7 +5,6 @@ ghost use Rattle.hex.specs.Read.{readingOf, kernelLeft};
 ghost use Rattle.hex.specs.Write.{writingOf, textLeft};
 
 pub mod calls;
-mod text;
 mod walks;
 
 use hexrow::Fault;
@@ -56,10 +55,10 @@ pub fn write(code: &[u8], text: &mut [u8]) -> Writing
     if LIMIT < code.len() {
         return Writing::BadSize;
     }
-    let n = text::size(code.len());
+    let n = hexwrite::size(code.len());
     if text.len() < n {
         return Writing::BadSize;
     }
-    text::put_rows(code, text);
+    hexwrite::put_rows(code, text);
     Writing::Text(n)
 }

@@ -1,3 +1,2 @@
 pub mod Row
 pub mod Reads
-pub mod Write

@@ -1,4 +1,4 @@
-// A row of Intel HEX: read at a place of a text, and written.
+// A row of Intel HEX, read at a place of a text.
 ghost use mathlib.Core.Path.{_≡_};
 ghost use Prim.Native.Nat.{_≤_};
 ghost use lib.ListN.{length, drop};
@@ -6,7 +6,6 @@ ghost use Rattle.hexrow.specs.Reads.{sizeBy, rowAt};
 
 pub mod pairs;
 mod says;
-pub mod write;
 
 // Why a row is refused. specs/Row.antt has the number of each.
 pub enum Fault {

@@ -5,7 +5,7 @@ use mathlib.Core.List.{List, []}
 use lib.Dec.{leb}
 use lib.ListN.{length}
 use Rattle.hex.specs.Read.{limit}
-use Rattle.hex.specs.Write.{hexOf}
+use Rattle.hexwrite.specs.Write.{hexOf}
 
 abbrev pub shownFor : List ℕ → List ℕ
 shownFor code = cond (leb (length code) limit) (hexOf code) []

@@ -7,9 +7,9 @@ use borrow.Author.Tests.{le-leb, lt-leb}
 use borrow.Author.Needs.{needs}
 use Rattle.bits.proofs.Pieces.{put-first}
 use Rattle.hex.specs.Read.{limit}
-use Rattle.hex.specs.Write.{hexOf}
+use Rattle.hexwrite.specs.Write.{hexOf}
 use Rattle.hex.specs.declared.Writing.{Writing}
-use Rattle.hex.proofs.Written.{length-hex}
+use Rattle.hexwrite.proofs.Written.{length-hex}
 use Rattle.hex.proofs.write.Statement.{statement}
 use Rattle.hex.proofs.write.Tie as tie
 

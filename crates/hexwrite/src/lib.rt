@@ -1,11 +1,13 @@
-// The text of a kernel.
+// The text of a kernel in Intel HEX, put into a buffer.
 ghost use mathlib.Core.Path.{_≡_};
 ghost use Prim.Native.Nat.{_+_, _*_, _/_, _≤_, min};
 ghost use lib.ListN.{length};
 ghost use lib.Seq.{sets};
-ghost use Rattle.hex.specs.Write.{hexOf};
+ghost use Rattle.hexwrite.specs.Write.{hexOf};
+
+mod row;
+
 use bits::piece;
-use hexrow::write::put_row;
 
 // The number of characters of the text of n bytes: 12 and two for each byte in a row, and 12 of the end row.
 pub fn size(n: usize) -> usize
@@ -34,7 +36,7 @@ pub fn put_rows(code: &[u8], text: &mut [u8])
     let mut at = 0;
     while at < code.len() {
         let end = row_end(at, code.len());
-        put_row(text, n, at, &code[at..end]);
+        row::put_row(text, n, at, &code[at..end]);
         n += 2 * (end - at) + 12;
         at = end;
     }

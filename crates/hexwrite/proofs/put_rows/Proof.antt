@@ -7,11 +7,10 @@ use lib.ListN.{length, take, drop, length-append, length-take, length-drop, drop
 use lib.Seq.{sets}
 use borrow.Author.Needs.{needs}
 use Rattle.bits.proofs.Pieces.{after}
-use Rattle.hexrow.specs.Write.{rowFor}
-use Rattle.hex.specs.Write.{hexOf}
-use Rattle.hex.proofs.Written.{rowsAll, all-rows, row-on, length-row, last-row, end-rows}
-use Rattle.hex.proofs.text.put_rows.Statement.{statement}
-use Rattle.hex.proofs.text.put_rows.Tie as tie
+use Rattle.hexwrite.specs.Write.{rowFor, hexOf}
+use Rattle.hexwrite.proofs.Written.{rowsAll, all-rows, row-on, length-row, last-row, end-rows}
+use Rattle.hexwrite.proofs.put_rows.Statement.{statement}
+use Rattle.hexwrite.proofs.put_rows.Tie as tie
 
 abbrev Inv-loop : tie.InvT-loop
 Inv-loop code text₀ n₀ at₀ t6 text n at =

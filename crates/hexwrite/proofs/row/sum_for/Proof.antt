@@ -4,10 +4,10 @@ use Prim.Native.Nat.{ℕ, _+_, _-_, _/_, _%_}
 use native.Mathlib.Omega.{arith}
 use lib.ListN.{length}
 use borrow.Author.Needs.{needs}
 use Rattle.hexrow.specs.Row.{total}
-use Rattle.hexrow.specs.Write.{headOf}
-use Rattle.hexrow.proofs.write.sum_for.Statement.{statement}
-use Rattle.hexrow.proofs.write.sum_for.Tie as tie
+use Rattle.hexwrite.specs.Write.{headOf}
+use Rattle.hexwrite.proofs.row.sum_for.Statement.{statement}
+use Rattle.hexwrite.proofs.row.sum_for.Tie as tie
 
 returns : tie.Need-returns
 returns c =

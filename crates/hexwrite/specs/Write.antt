@@ -1,10 +1,11 @@
--- A row of Intel HEX, as it is written: upper-case digits and a line feed. Follows "Kernels arrive as Intel HEX" of the change requests.
-use Prim.Native.Nat.{ℕ, _-_, _/_, _%_}
+-- The text of a kernel in Intel HEX: its rows, with upper-case digits and a line feed, and the end row. Follows "Kernels arrive as Intel HEX" of
+-- the change requests.
+use Prim.Native.Nat.{ℕ, zero, suc, _+_, _-_, _/_, _%_}
 use mathlib.Core.List.{List, [], _∷_, _++_}
-use lib.ListN.{length}
+use lib.ListN.{length, take, drop}
 use Rattle.isa.specs.Text.{ascii}
 use Rattle.digits.specs.Digits.{hexBytes}
 use Rattle.hexrow.specs.Row.{total}
 
 -- the byte that makes the sum of a row's bytes a multiple of 256
 abbrev pub sumFor : List ℕ → ℕ
@@ -24,3 +25,12 @@ rowFor type at bytes = ascii ":" ++ hexBytes (withSum (headOf type at bytes)) ++
 -- the row at the end
 abbrev pub endRow : List ℕ
 endRow = ascii ":00000001FF\n"
+
+-- rows of 16 bytes, the last of as many as are left, from an address on; then the end row. The first number bounds the rows
+unfoldable pub rowsFrom : ℕ → ℕ → List ℕ → List ℕ
+rowsFrom zero at s = endRow
+rowsFrom (suc k) at [] = endRow
+rowsFrom (suc k) at (b ∷ s) = rowFor 0 at (take 16 (b ∷ s)) ++ rowsFrom k (at + 16) (drop 16 (b ∷ s))
+
+unfoldable pub hexOf : List ℕ → List ℕ
+hexOf code = rowsFrom (length code) 0 code

@@ -3,8 +3,8 @@ ghost use mathlib.Core.Path.{_≡_};
 ghost use Prim.Native.Nat.{_+_, _*_, _%_, _≤_, _<_};
 ghost use lib.ListN.{length};
 ghost use lib.Seq.{sets};
 ghost use Rattle.hexrow.specs.Row.{total};
-ghost use Rattle.hexrow.specs.Write.{headOf, sumFor, rowFor};
+ghost use Rattle.hexwrite.specs.Write.{headOf, sumFor, rowFor};
 
 // The sum of some bytes modulo 256.
 fn sum_of(bytes: &[u8]) -> usize

@@ -10,8 +10,7 @@ use lib.Seq.{drop-drop, take-all}
 use borrow.Author.Tests.{leb-true, leb-false}
 use Rattle.digits.specs.Digits.{hexBytes}
 use Rattle.digits.proofs.Digits.{length-hexBytes}
-use Rattle.hexrow.specs.Write.{headOf, withSum, sumFor, rowFor, endRow}
-use Rattle.hex.specs.Write.{rowsFrom, hexOf}
+use Rattle.hexwrite.specs.Write.{headOf, withSum, sumFor, rowFor, endRow, rowsFrom, hexOf}
 
 -- as many rows as there are bytes are enough
 enough : (k m at : ℕ) (s : List ℕ) → length s ≤ k → length s ≤ m → rowsFrom k at s ≡ rowsFrom m at s

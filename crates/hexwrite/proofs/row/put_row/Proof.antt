@@ -9,9 +9,9 @@ use borrow.Author.Needs.{needs}
 use Rattle.bits.proofs.Pieces.{after}
 use Rattle.digits.specs.Digits.{hexByte, hexBytes}
 use Rattle.digits.proofs.Digits.{length-hexBytes, hex-append}
-use Rattle.hexrow.specs.Write.{headOf, sumFor, rowFor}
-use Rattle.hexrow.proofs.write.put_row.Statement.{statement}
-use Rattle.hexrow.proofs.write.put_row.Tie as tie
+use Rattle.hexwrite.specs.Write.{headOf, sumFor, rowFor}
+use Rattle.hexwrite.proofs.row.put_row.Statement.{statement}
+use Rattle.hexwrite.proofs.row.put_row.Tie as tie
 
 -- the pieces of a row
 module _ (at : ℕ) (bytes : List ℕ) where

@@ -5,9 +5,9 @@ use native.Mathlib.Numerals.{add-one}
 use native.Mathlib.Omega.{arith}
 use lib.ListN.{length, getD, drop, drop-of-length-le}
 use lib.Seq.{drop-cons}
 use Rattle.hexrow.specs.Row.{total}
-use Rattle.hexrow.proofs.write.sum_of.Statement.{statement}
-use Rattle.hexrow.proofs.write.sum_of.Tie as tie
+use Rattle.hexwrite.proofs.row.sum_of.Statement.{statement}
+use Rattle.hexwrite.proofs.row.sum_of.Tie as tie
 
 abbrev Inv-loop : tie.InvT-loop
 Inv-loop bytes s₀ i₀ s i = (i ≤ length bytes) × (s < 256) × ((s + total (drop i bytes)) % 256 ≡ total bytes % 256)
