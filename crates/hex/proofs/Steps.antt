@@ -9,7 +9,8 @@ use lib.ListN.{length, drop, length-drop, length-append, drop-of-length-le}
 use lib.Seq.{drop-drop}
 use lib.Dec.{eqb}
 use borrow.Author.Tests.{eqb-true, eqb-false}
-use Rattle.hexrow.specs.Row.{fault, Says, holds, ends, bad, spelled, saysOf, lineOf}
+use Rattle.hexpairs.specs.Pairs.{spelled}
+use Rattle.hexrow.specs.Row.{fault, Says, holds, ends, bad, saysOf, lineOf}
 use Rattle.hexrow.specs.declared.Fault.{Fault}
 use Rattle.hexrow.specs.Reads.{rowAt}
 use Rattle.hexrow.specs.declared.Row.{Row}

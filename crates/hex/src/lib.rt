@@ -4,7 +4,6 @@ ghost use lib.ListN.{length};
 ghost use Rattle.hex.specs.Read.{readingOf, kernelLeft};
 ghost use Rattle.hex.specs.Write.{writingOf, textLeft};
 
-pub mod calls;
 mod walks;
 
 use hexrow::Fault;
@@ -13,7 +12,7 @@ use hexrow::Fault;
 pub const LIMIT: usize = 8192;
 
 // What reading answers: the number of bytes of the kernel; the first bad row, counted from 1, and why it is refused; or that the kernel is
-// too long, or has no room. specs/Calls.antt has the number of each refusal.
+// too long, or has no room. The definitions of hexcalls have the number of each refusal.
 pub enum Reading {
     Kernel(usize),
     BadRow(usize, Fault),

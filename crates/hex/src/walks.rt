@@ -8,7 +8,6 @@ ghost use Rattle.hex.specs.Rows.{seenBy, kernelIn};
 use crate::Reading;
 use hexrow::Fault;
 use hexrow::Row;
-use hexrow::pairs;
 use hexrow::row_at;
 
 // What the text holds, with the number of bytes of the kernel.
@@ -47,7 +46,7 @@ pub fn fill(text: &[u8], out: &mut [u8])
     while at < text.len() {
         match row_at(text, at, n) {
             Row::Data(count, size) => {
-                pairs::put(out, n, text, at + 9, count);
+                hexpairs::put(out, n, text, at + 9, count);
                 n += count;
                 at += size;
             }

@@ -12,10 +12,11 @@ use borrow.Author.Tests.{ltb-true, ltb-false, le-leb, leb-true}
 use Rattle.bits.proofs.Laws.{Bytes, bytes-take, bytes-drop}
 use Rattle.isa.specs.Text.{ascii}
 use Rattle.digits.specs.Digits.{digit, hexBytes}
-use Rattle.hexrow.specs.Row.{total, dataOf}
+use Rattle.hexpairs.specs.Pairs.{total}
+use Rattle.hexrow.specs.Row.{dataOf}
 use Rattle.hexwrite.specs.Write.{sumFor, headOf, withSum, rowFor, endRow, rowsFrom, hexOf}
 use Rattle.hex.specs.Read.{kernel, limit, readOf, readingOf, kernelLeft}
-use Rattle.hex.specs.Calls.{readingBack, rowLeft, ReadsHex, WritesHex}
+use Rattle.hexcalls.specs.Calls.{readingBack, rowLeft, ReadsHex, WritesHex}
 use Rattle.hex.specs.declared.Reading.{Reading}
 use Rattle.hexlaws.specs.Form.{Digit, decimal, upper, Spells, none, pair, feed, IsRow, RightSum, DataRows, Holds, whole}
 use Rattle.hexlaws.proofs.Exactly.{right}

@@ -10,7 +10,8 @@ use lib.Dec.{eqb}
 use lib.ListN.{length, getD, drop}
 use borrow.Author.Tests.{eq-eqb, ne-eqb, eqb-true, eqb-false}
 use Rattle.hexrow.proofs.Told.{never}
-use Rattle.hexrow.specs.Row.{fault, bytesIn, formed, total, addressOf, typeOf, dataOf, Says, holds, ends, bad, summed, saysOf, lineOf}
+use Rattle.hexpairs.specs.Pairs.{total}
+use Rattle.hexrow.specs.Row.{fault, bytesIn, formed, addressOf, typeOf, dataOf, Says, holds, ends, bad, summed, saysOf, lineOf}
 use Rattle.hex.specs.Read.{linesOf, Contents, badRow, onRow, nothingAfter, readRows, readOf}
 use Rattle.hex.proofs.Lines.{lines-first}
 use Rattle.hexlaws.specs.Form.{IsRow, RightSum, IsData, IsEnd, DataRows, Holds, whole, noRow, wrongSum, misplaced, noEnd, followed}

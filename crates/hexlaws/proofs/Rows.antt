@@ -12,7 +12,8 @@ use borrow.Author.Tests.{eqb-true, ne-eqb}
 use Rattle.bits.specs.Lists.{eqList}
 use Rattle.bits.proofs.Lists.{eqList-is}
 use Rattle.bits.proofs.Table.{and-left, and-right}
-use Rattle.hexrow.specs.Row.{pairValue, pairs, spelled, isEnd, countIn, bytesIn, formed, lineOf}
+use Rattle.hexpairs.specs.Pairs.{pairValue, pairs, spelled, isEnd}
+use Rattle.hexrow.specs.Row.{countIn, bytesIn, formed, lineOf}
 use Rattle.hexrow.proofs.Rows.{length-spelled}
 use Rattle.hex.specs.Read.{linesOf}
 use Rattle.hex.proofs.Lines.{lines-first}

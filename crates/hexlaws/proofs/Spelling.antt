@@ -7,7 +7,7 @@ use native.Mathlib.Omega.{arith}
 use lib.Dec.{leb}
 use lib.ListN.{length, take}
 use borrow.Author.Tests.{le-leb, lt-leb, leb-true, lt-ltb}
-use Rattle.hexrow.specs.Row.{digitValue, pairs, spelled}
+use Rattle.hexpairs.specs.Pairs.{digitValue, pairs, spelled}
 use Rattle.hexrow.proofs.Lines.{first-pair}
 use Rattle.hexlaws.specs.Form.{Digit, decimal, upper, lower, Spells, none, pair}
 

@@ -6,7 +6,8 @@ use mathlib.Core.Path.{_≡_}
 use mathlib.Core.List.{List, [], _∷_, _++_}
 use mathlib.Core.Logic.{_⊎_}
 use lib.ListN.{length, getD}
-use Rattle.hexrow.specs.Row.{fault, total, addressOf, typeOf, dataOf, lineOf}
+use Rattle.hexpairs.specs.Pairs.{total}
+use Rattle.hexrow.specs.Row.{fault, addressOf, typeOf, dataOf, lineOf}
 use Rattle.hexrow.specs.declared.Fault.{Fault}
 use Rattle.hex.specs.Read.{Contents, kernel, badRow, limit}
 use Rattle.hex.specs.declared.Reading.{Reading}

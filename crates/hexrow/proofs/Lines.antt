@@ -10,8 +10,9 @@ use lib.Seq.{drop-drop}
 use borrow.Author.Tests.{ne-eqb, eqb-true, eqb-false, le-ltb, ltb-true}
 use Rattle.bits.specs.Lists.{eqList}
 use Rattle.bits.proofs.Table.{and-left, and-right}
-use Rattle.hexrow.specs.Row.{digitValue, pairValue, pairs, spelled, isEnd, lineOf}
-use Rattle.hexrow.specs.Reads.{endSize}
+use Rattle.hexpairs.specs.Pairs.{digitValue, pairValue, pairs, spelled, isEnd}
+use Rattle.hexrow.specs.Row.{lineOf}
+use Rattle.hexpairs.specs.Reads.{endSize}
 
 pub head-line : (s : List ℕ) → getD (lineOf s) 0 0 ≡ getD s 0 0
 unfolding lineOf

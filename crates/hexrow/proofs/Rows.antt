@@ -10,8 +10,10 @@ use lib.ListN.{length, getD, take, drop, length-drop, drop-of-length-le}
 use lib.Seq.{drop-drop}
 use borrow.Author.Tests.{eq-eqb, ne-eqb, eqb-true, lt-ltb, le-ltb, ltb-true}
 use Rattle.bits.proofs.Table.{and-left, and-right}
-use Rattle.hexrow.specs.Row.{fault, pairValue, pairs, spelled, isEnd, countIn, bytesIn, formed, addressOf, typeOf, dataOf, holds, ends, bad, placed, summed, saysOf, lineOf}
-use Rattle.hexrow.specs.Reads.{endSize, sizeBy, saysBy, told, rowAt}
+use Rattle.hexpairs.specs.Pairs.{pairValue, pairs, spelled, isEnd}
+use Rattle.hexrow.specs.Row.{fault, countIn, bytesIn, formed, addressOf, typeOf, dataOf, holds, ends, bad, placed, summed, saysOf, lineOf}
+use Rattle.hexpairs.specs.Reads.{endSize}
+use Rattle.hexrow.specs.Reads.{sizeBy, saysBy, told, rowAt}
 use Rattle.hexrow.specs.declared.Row.{Row}
 use Rattle.hexrow.specs.declared.Fault.{Fault}
 use Rattle.hexrow.proofs.Lines.{head-line, tail-line, pairs-line, first-pair, spelled-line, after-line, same-count, end-line}

@@ -9,7 +9,8 @@ use lib.Dec.{eqb}
 use lib.ListN.{length, getD, drop}
 use lib.Seq.{drop-drop}
 use borrow.Author.Tests.{lt-ltb}
-use Rattle.hexrow.specs.Row.{fault, pairValue, pairs, spelled, formed, total, addressOf, typeOf, dataOf, Says, holds, ends, bad, summed, saysOf, lineOf}
+use Rattle.hexpairs.specs.Pairs.{pairValue, pairs, spelled, total}
+use Rattle.hexrow.specs.Row.{fault, formed, addressOf, typeOf, dataOf, Says, holds, ends, bad, summed, saysOf, lineOf}
 use Rattle.hexrow.specs.Reads.{told, rowAt}
 use Rattle.hexrow.specs.declared.Row.{Row}
 use Rattle.hexrow.specs.declared.Fault.{Fault}

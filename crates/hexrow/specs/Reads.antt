@@ -1,15 +1,13 @@
 -- What the functions of this crate answer of a row that stands at the start of a text.
-use Prim.Native.Nat.{ℕ, _+_, _*_, _%_}
+use Prim.Native.Nat.{ℕ, _+_, _*_}
 use mathlib.Core.Bool.{cond, _&&_}
 use mathlib.Core.List.{List}
 use lib.Dec.{eqb, ltb}
 use lib.ListN.{length, getD, drop}
-use Rattle.hexrow.specs.Row.{fault, Says, holds, ends, bad, pairs, pairValue, spelled, total, saysOf, lineOf}
+use Rattle.hexpairs.specs.Pairs.{pairValue}
+use Rattle.hexpairs.specs.Reads.{endSize}
+use Rattle.hexrow.specs.Row.{fault, Says, holds, ends, bad, saysOf, lineOf}
 use Rattle.hexrow.specs.declared.Row.{Row}
-
--- the number of characters of the end of a line that stands at the start of s; 0 where there is none
-abbrev pub endSize : List ℕ → ℕ
-endSize s = cond (eqb (getD s 0 0) 10) 1 (cond (eqb (getD s 0 0) 13 && eqb (getD s 1 0) 10) 2 0)
 
 -- the number of characters of a row at the start of s, by its colon, its count and its end alone; 0 where there is none
 abbrev pub sizeBy : List ℕ → ℕ
@@ -17,10 +15,6 @@ sizeBy s =
     cond (eqb (getD s 0 0) 58 && (ltb (pairValue (drop 1 s)) 256 && ltb 0 (endSize (drop (2 * pairValue (drop 1 s) + 11) s))))
     (2 * pairValue (drop 1 s) + 11 + endSize (drop (2 * pairValue (drop 1 s) + 11) s))
     0
-
--- the sum of the bytes of n pairs, modulo 256; 256 where a character is no digit
-abbrev pub sumBy : ℕ → List ℕ → ℕ
-sumBy n s = cond (pairs n s) (total (spelled n s) % 256) 256
 
 -- what the numbers of a row with the right sum say: type, address and count, where the next byte of the kernel has the address next
 abbrev pub saysBy : ℕ → ℕ → ℕ → ℕ → ℕ → Row

@@ -1,12 +1,11 @@
 -- A row of Intel HEX, as it is read: a colon, pairs of hexadecimal digits, the end of the line. Follows "Kernels arrive as Intel HEX" of the
 -- change requests. The pairs spell the row's bytes: count, address (high byte first), type, data and sum.
-use Prim.Native.Nat.{ℕ, zero, suc, _+_, _*_, _-_, _%_}
-use mathlib.Core.Bool.{Bool, true, cond, _&&_, _||_}
+use Prim.Native.Nat.{ℕ, _+_, _*_, _%_}
+use mathlib.Core.Bool.{Bool, cond, _&&_}
 use mathlib.Core.List.{List, [], _∷_}
-use lib.Dec.{eqb, leb, ltb}
+use lib.Dec.{eqb}
 use lib.ListN.{getD, take, drop}
-use Rattle.bits.specs.Lists.{eqList}
-use Rattle.isa.specs.Text.{ascii}
+use Rattle.hexpairs.specs.Pairs.{pairValue, pairs, spelled, total, isEnd}
 use Rattle.hexrow.specs.declared.Fault.{Fault}
 
 -- ---- refusals
@@ -21,38 +20,7 @@ faultNumber Fault.Order = 14
 abbrev pub fault : ℕ → Fault
 fault n = cond (eqb n 12) Fault.Form (cond (eqb n 13) Fault.Sum Fault.Order)
 
--- ---- digits
-
-abbrev within : ℕ → ℕ → ℕ → Bool
-within low high c = leb low c && leb c high
-
--- the number that a hexadecimal digit stands for, in either case; 256 for every other character
-abbrev pub digitValue : ℕ → ℕ
-digitValue c =
-    cond (within 48 57 c) (c - 48)
-    (cond (within 65 70 c) (c - 55)
-    (cond (within 97 102 c) (c - 87)
-    256))
-
--- the byte that a pair of digits at the start of s spells; 256 or above where one of the two is no digit
-abbrev pub pairValue : List ℕ → ℕ
-pairValue s = 16 * digitValue (getD s 0 0) + digitValue (getD s 1 0)
-
--- whether n pairs of digits stand at the start of s
-unfoldable pub pairs : ℕ → List ℕ → Bool
-pairs zero s = true
-pairs (suc n) s = ltb (pairValue s) 256 && pairs n (drop 2 s)
-
--- the bytes that n pairs of digits spell
-unfoldable pub spelled : ℕ → List ℕ → List ℕ
-spelled zero s = []
-spelled (suc n) s = pairValue s ∷ spelled n (drop 2 s)
-
 -- ---- the form of a row
-
--- the end of a line: a line feed, with or without a carriage return before it
-abbrev pub isEnd : List ℕ → Bool
-isEnd s = eqList s (ascii "\n") || eqList s (ascii "\r\n")
 
 -- the first byte of a row, and all of them: as many as it says, and five more
 abbrev pub countIn : List ℕ → ℕ
@@ -69,10 +37,6 @@ formed line =
     && isEnd (drop (2 * countIn line + 11) line))
 
 -- ---- what a row says
-
-abbrev pub total : List ℕ → ℕ
-total [] = 0
-total (b ∷ bs) = b + total bs
 
 abbrev pub addressOf : List ℕ → ℕ
 addressOf bytes = 256 * getD bytes 1 0 + getD bytes 2 0

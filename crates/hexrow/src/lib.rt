@@ -4,7 +4,6 @@ ghost use Prim.Native.Nat.{_≤_};
 ghost use lib.ListN.{length, drop};
 ghost use Rattle.hexrow.specs.Reads.{sizeBy, rowAt};
 
-pub mod pairs;
 mod says;
 
 // Why a row is refused. specs/Row.antt has the number of each.
@@ -34,7 +33,7 @@ fn size_at(text: &[u8], at: usize) -> usize
     if text[at] != b':' {
         return 0;
     }
-    let count = pairs::pair_at(text, at + 1);
+    let count = hexpairs::pair_at(text, at + 1);
     if 255 < count {
         return 0;
     }
@@ -42,7 +41,7 @@ fn size_at(text: &[u8], at: usize) -> usize
     if left < body {
         return 0;
     }
-    let end = pairs::end_size(text, at + body);
+    let end = hexpairs::end_size(text, at + body);
     if end == 0 {
         return 0;
     }
@@ -58,14 +57,14 @@ pub fn row_at(text: &[u8], at: usize, next: usize) -> Row
     if size == 0 {
         return Row::Bad(Fault::Form);
     }
-    let count = pairs::pair_at(text, at + 1);
-    let sum = pairs::sum(text, at + 1, count + 5);
+    let count = hexpairs::pair_at(text, at + 1);
+    let sum = hexpairs::sum(text, at + 1, count + 5);
     if sum == 256 {
         return Row::Bad(Fault::Form);
     }
     if sum != 0 {
         return Row::Bad(Fault::Sum);
     }
-    let address = 256 * pairs::pair_at(text, at + 3) + pairs::pair_at(text, at + 5);
-    says::says(pairs::pair_at(text, at + 7), address, count, next, size)
+    let address = 256 * hexpairs::pair_at(text, at + 3) + hexpairs::pair_at(text, at + 5);
+    says::says(hexpairs::pair_at(text, at + 7), address, count, next, size)
 }

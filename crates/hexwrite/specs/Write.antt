@@ -5,7 +5,7 @@ use mathlib.Core.List.{List, [], _∷_, _++_}
 use lib.ListN.{length, take, drop}
 use Rattle.isa.specs.Text.{ascii}
 use Rattle.digits.specs.Digits.{hexBytes}
-use Rattle.hexrow.specs.Row.{total}
+use Rattle.hexpairs.specs.Pairs.{total}
 
 -- the byte that makes the sum of a row's bytes a multiple of 256
 abbrev pub sumFor : List ℕ → ℕ

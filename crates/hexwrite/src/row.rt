@@ -3,7 +3,7 @@ ghost use mathlib.Core.Path.{_≡_};
 ghost use Prim.Native.Nat.{_+_, _*_, _%_, _≤_, _<_};
 ghost use lib.ListN.{length};
 ghost use lib.Seq.{sets};
-ghost use Rattle.hexrow.specs.Row.{total};
+ghost use Rattle.hexpairs.specs.Pairs.{total};
 ghost use Rattle.hexwrite.specs.Write.{headOf, sumFor, rowFor};
 
 // The sum of some bytes modulo 256.

@@ -4,7 +4,7 @@ ghost use Rattle.decodeat.specs.DecodeAt.{DecodesAt};
 ghost use Rattle.reedtassel.specs.EncodeForm.{EncodesForm};
 ghost use Rattle.runbytes.specs.RunBytes.{lentOf};
 ghost use Rattle.reedtassel.specs.Run.{RunsBytes};
-ghost use Rattle.hex.specs.Calls.{ReadsHex, WritesHex};
+ghost use Rattle.hexcalls.specs.Calls.{ReadsHex, WritesHex};
 
 use answers::returned;
 
@@ -38,7 +38,7 @@ pub extern "C" fn reedtassel_run(code: &[u8], registers: &mut [u8], uniforms: &[
 pub extern "C" fn reedtassel_hex_read(text: &[u8], code: &mut [u8], row: &mut [u8]) -> i32
     ensures { λ r. ⌜ ReadsHex (now (text .entry)) (now (code .entry)) (now (row .entry)) r (now (code .exit)) (now (row .exit)) ⌝ }
 {
-    hex::calls::hex_read(text, code, row)
+    hexcalls::hex_read(text, code, row)
 }
 
 // A kernel as Intel HEX, and the length of the text. Refused, nothing is written.
@@ -46,5 +46,5 @@ pub extern "C" fn reedtassel_hex_read(text: &[u8], code: &mut [u8], row: &mut [u
 pub extern "C" fn reedtassel_hex_write(code: &[u8], text: &mut [u8]) -> i32
     ensures { λ r. ⌜ WritesHex (now (code .entry)) (now (text .entry)) r (now (text .exit)) ⌝ }
 {
-    hex::calls::hex_write(code, text)
+    hexcalls::hex_write(code, text)
 }

@@ -9,8 +9,10 @@ use lib.ListN.{length, drop, length-drop}
 use lib.Seq.{drop-drop}
 use borrow.Author.Tests.{ne-eqb}
 use borrow.Author.Needs.{needs}
-use Rattle.hexrow.specs.Row.{pairValue, pairs, spelled, total, placed}
-use Rattle.hexrow.specs.Reads.{endSize, sizeBy, sumBy, saysBy, told, rowAt}
+use Rattle.hexpairs.specs.Pairs.{pairValue, pairs, spelled, total}
+use Rattle.hexrow.specs.Row.{placed}
+use Rattle.hexpairs.specs.Reads.{endSize, sumBy}
+use Rattle.hexrow.specs.Reads.{sizeBy, saysBy, told, rowAt}
 use Rattle.hexrow.specs.declared.Row.{Row}
 use Rattle.hexrow.specs.declared.Fault.{Fault}
 use Rattle.hexrow.proofs.Rows.{count, body, At, Sized, sized, at-sized, no-row, at-row, told-placed, size-of, end-within}

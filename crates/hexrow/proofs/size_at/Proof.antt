@@ -6,9 +6,9 @@ use native.Mathlib.Omega.{arith}
 use lib.ListN.{getD, drop, length-drop}
 use lib.Seq.{drop-drop}
 use borrow.Author.Needs.{needs}
-use Rattle.hexrow.specs.Row.{pairValue}
-use Rattle.hexrow.specs.Reads.{endSize}
-use Rattle.hexrow.proofs.Digits.{head-drop}
+use Rattle.hexpairs.specs.Pairs.{pairValue}
+use Rattle.hexpairs.specs.Reads.{endSize}
+use Rattle.hexpairs.proofs.Places.{head-drop}
 use Rattle.hexrow.proofs.Rows.{count, body, past-end, no-colon, no-count, no-end, end-most, size-of}
 use Rattle.hexrow.proofs.size_at.Statement.{statement}
 use Rattle.hexrow.proofs.size_at.Tie as tie

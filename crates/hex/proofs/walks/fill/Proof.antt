@@ -8,7 +8,7 @@ use lib.ListN.{length, drop}
 use lib.Seq.{sets, drop-drop}
 use borrow.Author.Needs.{needs}
 use Rattle.bits.proofs.Pieces.{after}
-use Rattle.hexrow.specs.Row.{spelled, pairs}
+use Rattle.hexpairs.specs.Pairs.{spelled, pairs}
 use Rattle.hex.specs.Read.{readOf}
 use Rattle.hex.specs.Rows.{kernelIn}
 use Rattle.hex.proofs.Steps.{Known, known-first, known-more, room-for, row-data, fits-in, no-bad-row, all-there, bad-at, ran-out}

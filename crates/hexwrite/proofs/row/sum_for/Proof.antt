@@ -4,7 +4,7 @@ use Prim.Native.Nat.{ℕ, _+_, _-_, _/_, _%_}
 use native.Mathlib.Omega.{arith}
 use lib.ListN.{length}
 use borrow.Author.Needs.{needs}
-use Rattle.hexrow.specs.Row.{total}
+use Rattle.hexpairs.specs.Pairs.{total}
 use Rattle.hexwrite.specs.Write.{headOf}
 use Rattle.hexwrite.proofs.row.sum_for.Statement.{statement}
 use Rattle.hexwrite.proofs.row.sum_for.Tie as tie

@@ -5,7 +5,7 @@ use native.Mathlib.Numerals.{add-one}
 use native.Mathlib.Omega.{arith}
 use lib.ListN.{length, getD, drop, drop-of-length-le}
 use lib.Seq.{drop-cons}
-use Rattle.hexrow.specs.Row.{total}
+use Rattle.hexpairs.specs.Pairs.{total}
 use Rattle.hexwrite.proofs.row.sum_of.Statement.{statement}
 use Rattle.hexwrite.proofs.row.sum_of.Tie as tie
 
