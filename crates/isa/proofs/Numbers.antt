@@ -1,4 +1,4 @@
--- Each number of the table "Refusal numbers" has a refusal, and that refusal has this number.
+-- Each refusal number has a refusal, and that refusal has this number.
 use mathlib.Core.Path.{_≡_, refl}
 use mathlib.Core.List.{List, [], _∷_, map}
 use Prim.Native.Nat.{ℕ, _<_}
@@ -6,10 +6,10 @@ use lib.Dec.{lit<}
 use Rattle.isa.specs.Refusal.{numberOf, refusal}
 use Rattle.isa.specs.declared.answer.Refusal.{Refusal}
 
-abbrev oneToNine : List ℕ
-oneToNine = 1 ∷ 2 ∷ 3 ∷ 4 ∷ 5 ∷ 6 ∷ 7 ∷ 8 ∷ 9 ∷ []
+abbrev oneToTen : List ℕ
+oneToTen = 1 ∷ 2 ∷ 3 ∷ 4 ∷ 5 ∷ 6 ∷ 7 ∷ 8 ∷ 9 ∷ 10 ∷ []
 
-pub refusal-numbers : map (λ (n : ℕ). numberOf (refusal n)) oneToNine ≡ oneToNine
+pub refusal-numbers : map (λ (n : ℕ). numberOf (refusal n)) oneToTen ≡ oneToTen
 refusal-numbers = refl
 
 -- no refusal is without one
@@ -23,9 +23,10 @@ of-number Refusal.NoSpecial = refl
 of-number Refusal.BadTarget = refl
 of-number Refusal.NoEncoding = refl
 of-number Refusal.ShortBuffer = refl
+of-number Refusal.Discarded = refl
 
--- and none is above 9
-pub number-below : (r : Refusal) → numberOf r < 10
+-- and each is one hexadecimal digit
+pub number-below : (r : Refusal) → numberOf r < 16
 number-below Refusal.BadSize = lit< tt
 number-below Refusal.CutShort = lit< tt
 number-below Refusal.NoDiagram = lit< tt
@@ -35,3 +36,4 @@ number-below Refusal.NoSpecial = lit< tt
 number-below Refusal.BadTarget = lit< tt
 number-below Refusal.NoEncoding = lit< tt
 number-below Refusal.ShortBuffer = lit< tt
+number-below Refusal.Discarded = lit< tt

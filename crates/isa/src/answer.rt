@@ -14,6 +14,7 @@ pub enum Refusal {
     BadTarget,
     NoEncoding,
     ShortBuffer,
+    Discarded,
 }
 
 // What the finding rule answers: the place of a diagram in the list, counted from 0, and the length of the instruction in bytes; or the
@@ -54,5 +55,6 @@ pub fn number(r: Refusal) -> u8
         Refusal::BadTarget => 7,
         Refusal::NoEncoding => 8,
         Refusal::ShortBuffer => 9,
+        Refusal::Discarded => 10,
     }
 }

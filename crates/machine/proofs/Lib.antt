@@ -1,6 +1,8 @@
 pub mod Tab
 pub mod Rows
 pub mod Masks
+pub mod Marks
+pub mod Compares
 pub mod Steps
 pub mod Sizes
 pub mod Runs

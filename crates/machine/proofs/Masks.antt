@@ -5,8 +5,9 @@ use Prim.Native.Nat.{ℕ, zero, suc, _+_, _*_, _-_, _/_, _%_, _^_, _<_}
 use native.Mathlib.Omega.{arith}
 use native.Mathlib.Nat.{add-mul-div-right, div-eq-of-lt, div-div-eq-div-mul}
 use native.Mathlib.Decide.{decLt}
+use borrow.Author.Tests.{eq-eqb}
 use lib.Dec.{eqb}
-use lib.Pow.{pow-pos, pow-add}
+use lib.Pow.{pow-pos, pow-add, high, ones-split, ones-lt}
 use Rattle.machine.specs.Lanes.{activeIn, pack}
 
 pub pack-lt : (n : ℕ) (f : ℕ → Bool) → pack n f < 2 ^ n
@@ -79,3 +80,13 @@ bits-ext (suc n) a b h k e =
     half x t =
         let o : 2 ^ suc t ≡ 2 * 2 ^ t = omega arith in
         rw (o, div-div-eq-div-mul x 2 (2 ^ t))
+
+-- every bit of the mask of 32 ones is set
+pub all-active : (t : ℕ) → t < 32 → activeIn 4294967295 t ≡ true
+unfolding activeIn
+all-active t h =
+    let m : ℕ = 31 - t in
+    let e : 32 ≡ suc m + t = omega arith in
+    let s : 4294967295 ≡ (2 ^ suc m - 1) * 2 ^ t + (2 ^ t - 1) = ap (λ (x : ℕ). 2 ^ x - 1) e ∙ ones-split (suc m) t in
+    let d : 4294967295 / 2 ^ t ≡ 2 ^ suc m - 1 = ap (λ (x : ℕ). x / 2 ^ t) s ∙ high (2 ^ suc m - 1) t (ones-lt t) in
+    eq-eqb (4294967295 / 2 ^ t % 2) 1 (ap (λ (x : ℕ). x % 2) d ∙ omega (arith, pow-pos m))

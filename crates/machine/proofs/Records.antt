@@ -8,7 +8,7 @@ use lib.ListN.{length, getD, take, drop, length-append, length-drop}
 use lib.Seq.{take-at, drop-at, drop-drop}
 use Rattle.machine.specs.Step.{Step}
 use Rattle.machine.specs.Record.{recordOf, recordsOf, roomAfter}
-use Rattle.machine.specs.Run.{Call, Run, arranged, runOf, registersLeft, recordsLeft}
+use Rattle.machine.specs.Run.{Call, Run, arranged, runOf, registersLeft, marksLeft, recordsLeft}
 use Rattle.machine.proofs.Sizes.{sizes}
 use Rattle.machine.proofs.Runs.{steps-budget, badly-arranged}
 
@@ -58,8 +58,9 @@ room-kept c a =
 
 -- a call that is refused with 1 is left as it was given
 pub nothing-written : (c : Call) → arranged c ≡ false
-    → (registersLeft c ≡ c .registers) × (recordsLeft c ≡ c .records)
+    → (registersLeft c ≡ c .registers) × (marksLeft c ≡ c .marks) × (recordsLeft c ≡ c .records)
 unfolding roomAfter recordsOf
 nothing-written c e =
     let b = badly-arranged c e in
-    (ap (λ (r : Run). r .last .threads .registers) b, ap (λ (r : Run). roomAfter (r .steps) (c .records)) b)
+    (ap (λ (r : Run). r .last .threads .registers) b, ap (λ (r : Run). r .last .threads .marks) b,
+    ap (λ (r : Run). roomAfter (r .steps) (c .records)) b)

@@ -110,7 +110,7 @@ steps-budget c =
 -- ---- how a run ends
 
 -- finished at the end of the code; spent before it, with all of the budget; refused before it, with budget left, as the instruction
--- there is refused, with one of the numbers 2 to 7
+-- there is refused, with one of the numbers 2 to 7, or 10
 abbrev pub Ended : List ℕ → Tables → ℕ → Ending → ℕ → State → Type 0
 Ended code tables budget Ending.Finished steps last = last .address ≡ length code
 Ended code tables budget Ending.Spent steps last = (last .address ≡ length code → ⊥) × (steps ≡ budget)
@@ -137,7 +137,7 @@ pub badly-arranged : (c : Call) → arranged c ≡ false → runOf c ≡ ends (E
 unfolding runOf
 badly-arranged c e = rw e
 
--- otherwise a run is refused with one of the numbers 2 to 7
+-- otherwise a run is refused with one of the numbers 2 to 7, or 10
 pub refused-with : (c : Call) (r : Refusal) → arranged c ≡ true → runOf c .ending ≡ Ending.Refused r → Numbered r
 refused-with c r a e = (rw e at (ended c a)) .3
 

@@ -8,7 +8,7 @@ use borrow.Author.Tests.{eqb-true, leb-true, eq-eqb, le-leb}
 use lib.Dec.{eqb, leb}
 use lib.ListN.{length}
 use Rattle.machine.specs.Meaning.{both}
-use Rattle.machine.specs.Run.{Call, columns, codeLimit, budgetLimit, arranged}
+use Rattle.machine.specs.Run.{Call, columns, marksLength, codeLimit, budgetLimit, arranged}
 
 -- 32 x n words, n from fewest to most
 pub record Columns (fewest most : ℕ) (words : List ℕ) : Type 0 where
@@ -19,6 +19,7 @@ pub record Columns (fewest most : ℕ) (words : List ℕ) : Type 0 where
 pub record Sizes (c : Call) : Type 0 where
   pub code : length (c .code) ≤ 8192
   pub registers : Columns 1 128 (c .registers)
+  pub marks : length (c .marks) ≡ 2 * length (c .registers)
   pub uniforms : length (c .uniforms) ≡ 256
   pub specials : Columns 0 256 (c .specials)
   pub some : 1 ≤ c .budget
@@ -43,7 +44,8 @@ unfolding arranged
 sizes c e =
     let code = parts (leb (length (c .code)) codeLimit) _ e in
     let registers = parts (columns 1 128 (c .registers)) _ (code .1) in
-    let uniforms = parts (eqb (length (c .uniforms)) 256) _ (registers .1) in
+    let marks = parts (eqb (length (c .marks)) (marksLength (length (c .registers)))) _ (registers .1) in
+    let uniforms = parts (eqb (length (c .uniforms)) 256) _ (marks .1) in
     let specials = parts (columns 0 256 (c .specials)) _ (uniforms .1) in
     let some = parts (leb 1 (c .budget)) _ (specials .1) in
     let budget = parts (leb (c .budget) budgetLimit) _ (some .1) in
@@ -52,6 +54,7 @@ sizes c e =
     record {
       code = leb-true _ _ (code .0);
       registers = in-columns 1 128 (c .registers) (registers .0);
+      marks = eqb-true _ _ (marks .0);
       uniforms = eqb-true _ _ (uniforms .0);
       specials = in-columns 0 256 (c .specials) (specials .0);
       some = leb-true _ _ (some .0);
@@ -67,5 +70,5 @@ has-columns fewest most words s = rw (eq-eqb _ _ (s .whole), le-leb _ _ (s .leas
 pub sized : (c : Call) → Sizes c → arranged c ≡ true
 unfolding arranged
 sized c s =
-    rw (le-leb _ _ (s .code), has-columns 1 128 (c .registers) (s .registers), eq-eqb _ _ (s .uniforms), has-columns 0 256 (c .specials) (s .specials),
+    rw (le-leb _ _ (s .code), has-columns 1 128 (c .registers) (s .registers), eq-eqb _ _ (s .marks), eq-eqb _ _ (s .uniforms), has-columns 0 256 (c .specials) (s .specials),
       le-leb _ _ (s .some), le-leb _ _ (s .budget), eq-eqb _ _ (s .even), le-leb _ _ (s .inside), le-leb _ _ (s .room))

@@ -1,7 +1,7 @@
--- What is made or done for each of the 32 threads, or lanes: a list of a value each, a change for each in turn, and a mask of a bit
--- each.
+-- What is made or done for each of the 32 threads, or lanes: a list of a value each, a change for each in turn, a mask of a bit each; and
+-- whether something holds of any.
 use Prim.Native.Nat.{ℕ, zero, suc, _+_, _/_, _%_, _^_}
-use mathlib.Core.Bool.{Bool, cond}
+use mathlib.Core.Bool.{Bool, true, false, cond}
 use mathlib.Core.List.{List, [], _∷_, _++_}
 use lib.Dec.{eqb}
 
@@ -23,3 +23,8 @@ activeIn mask t = eqb (mask / 2 ^ t % 2) 1
 unfoldable pub pack : ℕ → (ℕ → Bool) → ℕ
 pack zero f = 0
 pack (suc n) f = pack n f + cond (f n) (2 ^ n) 0
+
+-- whether f holds of any number below n
+unfoldable pub anyBelow : ℕ → (ℕ → Bool) → Bool
+anyBelow zero f = false
+anyBelow (suc n) f = cond (f n) true (anyBelow n f)

@@ -3,6 +3,7 @@ pub mod Lanes
 pub mod Words
 pub mod Meaning
 pub mod State
+pub mod Marks
 pub mod Step
 pub mod Record
 pub mod Run

@@ -210,13 +210,31 @@ whileIcmp o n a b v = cond (ltb v n) (cond (holds o a b) (pos 0) (pos n)) (pos v
 unfoldable pub elseIcmp : Condition → ℕ → ℕ → ℕ → ℕ → ℤ
 elseIcmp o n a b v = cond (eqb v 0) (pos n) (cond (eqb v 1) (cond (holds o a b) (pos 0) (pos 1)) (pos v))
 
+-- ---- which threads compare: those whose r0l, v, leads to cc.compare(A[thread], B[thread]) above
+
+-- if v != 0: ..; elif not cc.compare(..)
+abbrev pub ifCompares : ℕ → ℕ → Bool
+ifCompares n v = eqb v 0
+
+-- if v < n: if cc.compare(..)
+abbrev pub whileCompares : ℕ → ℕ → Bool
+whileCompares n v = ltb v n
+
+-- if v == 0: ..; elif v == 1: if cc.compare(..)
+abbrev pub elseCompares : ℕ → ℕ → Bool
+elseCompares n v = eqb v 1
+
+abbrev pub neverCompares : ℕ → Bool
+neverCompares v = false
+
 -- ---- the meaning of an instruction
 
 pub data Meaning : Type 0 where
   -- for each active thread: D[thread] = result
   writes : Destination → Input → Input → Input → (ℕ → ℕ → ℕ → ℤ) → Meaning
-  -- for each thread: v = D[thread], D[thread] = result, exec_mask[thread] = (result == 0)
-  masks : Input → Input → (ℕ → ℕ → ℕ → ℤ) → Meaning
+  -- for each thread: v = D[thread], D[thread] = result, exec_mask[thread] = (result == 0); A and B are compared by the threads with
+  -- these v
+  masks : (ℕ → Bool) → Input → Input → (ℕ → ℕ → ℕ → ℤ) → Meaning
   -- if any(exec_mask), or if not any(exec_mask): next_pc = pc + offset
   jumps : Bool → ℤ → Meaning
 
@@ -243,11 +261,11 @@ two-sources o result = writes (o .d .destination) (input (o .a)) (input (o .b)) 
 abbrev pub three-sources : Ternary → (ℕ → ℕ → ℕ → ℤ) → Meaning
 three-sources o result = writes (o .d .destination) (input (o .a)) (input (o .b)) (input (o .c)) result
 
-abbrev pub comparison : Compare → (Condition → ℕ → ℕ → ℕ → ℕ → ℤ) → Meaning
-comparison o result =
+abbrev pub comparison : Compare → (ℕ → ℕ → Bool) → (Condition → ℕ → ℕ → ℕ → ℕ → ℤ) → Meaning
+comparison o compares result =
     let a = o .operands .a in
     let b = o .operands .b in
-    masks (input a) (input b) (result (record { cc = o .cc; ccn = o .ccn; sizeA = size a; sizeB = size b }) (o .n))
+    masks (compares (o .n)) (input a) (input b) (result (record { cc = o .cc; ccn = o .ccn; sizeA = size a; sizeB = size b }) (o .n))
 
 -- ---- the 22 instructions, in document order
 
@@ -278,7 +296,7 @@ meaningOf (Instruction.Popcount o) = one-source (o .operands) popcount
 meaningOf (Instruction.Ffs o) = one-source (o .operands) ffs
 meaningOf (Instruction.JmpExecAny off) = jumps true (signExtend off 32)
 meaningOf (Instruction.JmpExecNone off) = jumps false (signExtend off 32)
-meaningOf (Instruction.PopExec hint n k) = masks none none (popExec n)
-meaningOf (Instruction.IfIcmp o) = comparison o ifIcmp
-meaningOf (Instruction.WhileIcmp o) = comparison o whileIcmp
-meaningOf (Instruction.ElseIcmp o) = comparison o elseIcmp
+meaningOf (Instruction.PopExec hint n k) = masks neverCompares none none (popExec n)
+meaningOf (Instruction.IfIcmp o) = comparison o ifCompares ifIcmp
+meaningOf (Instruction.WhileIcmp o) = comparison o whileCompares whileIcmp
+meaningOf (Instruction.ElseIcmp o) = comparison o elseCompares elseIcmp

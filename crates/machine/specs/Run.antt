@@ -1,5 +1,5 @@
 -- A run: the sizes of what is lent, the steps, how it ends and what it leaves. Follows "Sizes of what is lent" and "One run" of the
--- statement of what to build.
+-- statement of what to build, and the change request on discard.
 use Prim.Native.Nat.{ℕ, zero, suc, _*_, _%_}
 use mathlib.Core.Bool.{Bool, cond}
 use mathlib.Core.List.{List, [], _∷_}
@@ -18,6 +18,7 @@ use Rattle.machine.specs.declared.answer.Answer.{Answer}
 pub record Call : Type 0 where
   pub code : List ℕ
   pub registers : List ℕ
+  pub marks : List ℕ
   pub uniforms : List ℕ
   pub specials : List ℕ
   pub start : ℕ
@@ -38,17 +39,22 @@ abbrev pub columns : ℕ → ℕ → List ℕ → Bool
 columns fewest most words =
     both (eqb (length words % 32) 0) (both (leb (32 * fewest) (length words)) (leb (length words) (32 * most)))
 
+-- 64 x N marks, where there are 32 x N words of registers
+abbrev pub marksLength : ℕ → ℕ
+marksLength words = 2 * words
+
 unfoldable pub arranged : Call → Bool
 arranged c =
     both (leb (length (c .code)) codeLimit)
     (both (columns 1 128 (c .registers))
+    (both (eqb (length (c .marks)) (marksLength (length (c .registers))))
     (both (eqb (length (c .uniforms)) 256)
     (both (columns 0 256 (c .specials))
     (both (leb 1 (c .budget))
     (both (leb (c .budget) budgetLimit)
     (both (eqb (c .start % 2) 0)
     (both (leb (c .start) (length (c .code)))
-    (leb (16 * c .budget) (length (c .records))))))))))
+    (leb (16 * c .budget) (length (c .records)))))))))))
 
 -- ---- the steps
 
@@ -80,7 +86,7 @@ abbrev pub tablesOf : Call → Tables
 tablesOf c = record { uniforms = c .uniforms; specials = c .specials }
 
 abbrev pub startOf : Call → State
-startOf c = stateAt (threadsAt (c .registers) (c .mask)) (c .start)
+startOf c = stateAt (threadsAt (c .registers) (c .marks) (c .mask)) (c .start)
 
 unfoldable pub runOf : Call → Run
 runOf c =
@@ -95,6 +101,9 @@ answerOf r = record { ending = r .ending; steps = length (r .steps); address = r
 
 abbrev pub registersLeft : Call → List ℕ
 registersLeft c = runOf c .last .threads .registers
+
+abbrev pub marksLeft : Call → List ℕ
+marksLeft c = runOf c .last .threads .marks
 
 abbrev pub recordsLeft : Call → List ℕ
 recordsLeft c = roomAfter (runOf c .steps) (c .records)

@@ -1,5 +1,5 @@
--- One step of the 32 threads: which instructions are refused, what the others do to registers, mask and address, and their class.
--- Follows "One step" and "Refusal numbers" of the statement of what to build.
+-- One step of the 32 threads: which instructions are refused, what the others do to registers, marks, mask and address, and their class.
+-- Follows "One step" and "Refusal numbers" of the statement of what to build, and the change request on discard.
 use Prim.Native.Nat.{ℕ, _+_, _*_, _%_, max}
 use mathlib.Core.Bool.{Bool, cond, not}
 use mathlib.Core.List.{List, [], _∷_}
@@ -19,6 +19,7 @@ use Rattle.machine.specs.Lanes.{tab, each, activeIn, pack}
 use Rattle.machine.specs.Words.{Tables, valueOf, storeOf, destinationSize, destinationReach, inputReach, specialReach}
 use Rattle.machine.specs.Meaning.{Meaning, writes, masks, jumps, meaningOf, both}
 use Rattle.machine.specs.State.{Threads, State, threadsAt, stateAt}
+use Rattle.machine.specs.Marks.{readsMarked, marksAfter}
 use Rattle.machine.specs.declared.input.Input.{Input}
 
 abbrev pub Result : Type 0
@@ -58,10 +59,11 @@ writeAll d result mask sources registers =
 unfoldable pub nextAt : Result → List (List ℕ) → ℕ → ℕ
 nextAt result sources t = nextOf result (sourceAt sources 0 t) (sourceAt sources 1 t) (sourceAt sources 2 t)
 
-unfoldable pub maskAll : Result → List (List ℕ) → List ℕ → Threads
-maskAll result sources registers =
+unfoldable pub maskAll : Result → List (List ℕ) → List ℕ → List ℕ → Threads
+maskAll result sources registers marks =
     threadsAt
     (each 32 (λ t. storeOf r0l t (nextAt result sources t)) registers)
+    marks
     (pack 32 (λ t. eqb (nextAt result sources t) 0))
 
 -- r0l as a source
@@ -70,8 +72,12 @@ ownR0l = Input.Operand record { source = Source.Half 0; hint = Hint.None }
 
 unfoldable pub threadsAfter : Meaning → Tables → Threads → Threads
 threadsAfter (writes d a b c result) tables s =
-    threadsAt (writeAll d result (s .mask) (gatherOf tables (s .registers) a b c) (s .registers)) (s .mask)
-threadsAfter (masks a b result) tables s = maskAll result (gatherOf tables (s .registers) a b ownR0l) (s .registers)
+    threadsAt
+    (writeAll d result (s .mask) (gatherOf tables (s .registers) a b c) (s .registers))
+    (marksAfter (writes d a b c result) (s .mask) (s .marks))
+    (s .mask)
+threadsAfter (masks compares a b result) tables s =
+    maskAll result (gatherOf tables (s .registers) a b ownR0l) (s .registers) (marksAfter (masks compares a b result) (s .mask) (s .marks))
 threadsAfter (jumps any offset) tables s = s
 
 -- ---- refusals 5 and 6
@@ -79,12 +85,12 @@ threadsAfter (jumps any offset) tables s = s
 -- how many registers, and how many special registers, there have to be
 abbrev pub registersReach : Meaning → ℕ
 registersReach (writes d a b c result) = max (destinationReach d) (max (inputReach a) (max (inputReach b) (inputReach c)))
-registersReach (masks a b result) = max 1 (max (inputReach a) (inputReach b))
+registersReach (masks compares a b result) = max 1 (max (inputReach a) (inputReach b))
 registersReach (jumps any offset) = 0
 
 abbrev pub specialsReach : Meaning → ℕ
 specialsReach (writes d a b c result) = max (specialReach a) (max (specialReach b) (specialReach c))
-specialsReach (masks a b result) = max (specialReach a) (specialReach b)
+specialsReach (masks compares a b result) = max (specialReach a) (specialReach b)
 specialsReach (jumps any offset) = 0
 
 -- ---- where the run goes on, and the class of the step
@@ -106,7 +112,7 @@ landing codeLength (negsuc below) = nowhere (refusal 7)
 
 unfoldable pub goingOf : Meaning → ℕ → ℕ → ℕ → ℕ → Going
 goingOf (writes d a b c result) codeLength bytes address mask = to (address + bytes) 1
-goingOf (masks a b result) codeLength bytes address mask = to (address + bytes) 2
+goingOf (masks compares a b result) codeLength bytes address mask = to (address + bytes) 2
 goingOf (jumps any offset) codeLength bytes address mask =
     cond (taken any mask) (landing codeLength (pos address +ℤ offset)) (to (address + bytes) 3)
 
@@ -137,7 +143,9 @@ stepBy (Decoded.Refused r) codeLength tables s = refused r
 stepBy (Decoded.Found i bytes) codeLength tables s =
     cond (leb (32 * registersReach (meaningOf i)) (length (s .threads .registers)))
     (cond (leb (32 * specialsReach (meaningOf i)) (length (tables .specials)))
-    (goTo (goingOf (meaningOf i) codeLength bytes (s .address) (s .threads .mask)) i bytes tables s)
+    (cond (readsMarked (meaningOf i) (s .threads))
+    (refused (refusal 10))
+    (goTo (goingOf (meaningOf i) codeLength bytes (s .address) (s .threads .mask)) i bytes tables s))
     (refused (refusal 6)))
     (refused (refusal 5))
 

@@ -8,14 +8,14 @@ use Rattle.machine.specs.Words.{inputSize}
 use Rattle.machine.specs.Meaning.{Meaning, writes, masks, jumps}
 use Rattle.machine.specs.Step.{ownR0l}
 use Rattle.machine.specs.declared.input.Input.{Input}
-use Rattle.operations.specs.Operation.{resultBy, looksBy, sizesBy, SizedBy}
+use Rattle.operations.specs.Operation.{resultBy, comparesBy, looksBy, sizesBy, SizedBy}
 use Rattle.operations.specs.declared.Operation.{Operation}
 use Rattle.operations.specs.declared.action.Kind.{Kind}
 use Rattle.operations.specs.declared.action.Action.{Action}
 
 abbrev pub meaningFor : Kind → Destination → Input → Input → Input → Operation → ℕ → Meaning
 meaningFor Kind.Writes d a b c operation off = writes d a b c (resultBy operation)
-meaningFor Kind.Masks d a b c operation off = masks a b (resultBy operation)
+meaningFor Kind.Masks d a b c operation off = masks (comparesBy operation) a b (resultBy operation)
 meaningFor Kind.JumpsIfAny d a b c operation off = jumps true (signExtend off 32)
 meaningFor Kind.JumpsIfNone d a b c operation off = jumps false (signExtend off 32)
 

@@ -1,5 +1,5 @@
--- What an operation computes from the values of three sources, by the definitions of the machine; which of the three it looks at; and of
--- which operands that is the definition: the bit sizes beside an operation are those of its operands, and each value is within its size.
+-- What an operation computes from the values of three sources, and which threads compare, by the definitions of the machine; which of the
+-- three it looks at; and of which operands that is the definition: the bit sizes beside an operation are those of its operands, and each value is within its size.
 use Prim.Native.Nat.{ℕ, _≤_, _<_, _^_}
 use mathlib.Core.Path.{_≡_}
 use mathlib.Core.Bool.{Bool, true, false}
@@ -40,6 +40,29 @@ resultBy (Operation.PopExec n) = meaning.popExec n
 resultBy (Operation.IfIcmp o) = meaning.ifIcmp (conditionOf o) (o .n)
 resultBy (Operation.WhileIcmp o) = meaning.whileIcmp (conditionOf o) (o .n)
 resultBy (Operation.ElseIcmp o) = meaning.elseIcmp (conditionOf o) (o .n)
+
+-- ---- which threads compare, by their r0l
+
+abbrev pub comparesBy : Operation → ℕ → Bool
+comparesBy (Operation.Mov imm) = meaning.neverCompares
+comparesBy Operation.GetSr = meaning.neverCompares
+comparesBy (Operation.Iadd o) = meaning.neverCompares
+comparesBy (Operation.Imadd o) = meaning.neverCompares
+comparesBy (Operation.Bfi m) = meaning.neverCompares
+comparesBy (Operation.Bfeil m) = meaning.neverCompares
+comparesBy (Operation.Extr m) = meaning.neverCompares
+comparesBy (Operation.Shlhi m) = meaning.neverCompares
+comparesBy (Operation.Shrhi m) = meaning.neverCompares
+comparesBy (Operation.Asr size) = meaning.neverCompares
+comparesBy (Operation.Asrh size) = meaning.neverCompares
+comparesBy (Operation.Bitop o) = meaning.neverCompares
+comparesBy Operation.Bitrev = meaning.neverCompares
+comparesBy Operation.Popcount = meaning.neverCompares
+comparesBy Operation.Ffs = meaning.neverCompares
+comparesBy (Operation.PopExec n) = meaning.neverCompares
+comparesBy (Operation.IfIcmp o) = meaning.ifCompares (o .n)
+comparesBy (Operation.WhileIcmp o) = meaning.whileCompares (o .n)
+comparesBy (Operation.ElseIcmp o) = meaning.elseCompares (o .n)
 
 -- ---- which sources an operation looks at
 

@@ -1,4 +1,5 @@
 pub mod Own
+pub mod Marks
 pub mod Project
 pub mod Sorted
 pub mod Alone

@@ -16,6 +16,7 @@ use Rattle.machine.proofs.Steps.{step-made}
 use Rattle.machine.proofs.Runs.{every-call, mask-left}
 use Rattle.threads.specs.Visit.{Visit, setBit, visitThread, instructionsOf, numbered, perform, ByThemselves}
 use Rattle.threads.proofs.Sorted.{mine, from, all-map, mine-order}
+use Rattle.threads.proofs.Own.{Same}
 use Rattle.threads.proofs.Project.{Agree, agree-refl, agree-sym, agree-trans, visit-agree, step-visit}
 use Rattle.threads.proofs.Alone.{alone, numbers, perform-alone, all-numbers}
 
@@ -44,7 +45,7 @@ run-alone c t h =
 mask-visit : (m : Meaning) (tables : Tables) (t : ℕ) (s : Threads) → s .mask < 2 ^ 32 → visitThread m tables t s .mask < 2 ^ 32
 unfolding visitThread setBit
 mask-visit (writes d a b c result) tables t s h = h
-mask-visit (masks a b result) tables t s h = pack-lt 32 _
+mask-visit (masks compares a b result) tables t s h = pack-lt 32 _
 mask-visit (jumps any offset) tables t s h = h
 
 mask-perform : (c : Call) (vs : List Visit) (s : Threads) → s .mask < 2 ^ 32 → perform c vs s .mask < 2 ^ 32
@@ -57,18 +58,21 @@ mask-perform c (v ∷ vs) s h =
 same-threads : (s z : Threads) → s .mask < 2 ^ 32 → z .mask < 2 ^ 32 → ((t : ℕ) → t < 32 → Agree t s z) → s ≡ z
 same-threads s z h k g =
     let e : s .registers ≡ z .registers =
-          ext-getD 0 (s .registers) (z .registers) (g 0 (omega arith) .len) (λ i l. at i (g (i % 32) (omega arith))) in
+          ext-getD 0 (s .registers) (z .registers) (g 0 (omega arith) .len) (λ i l. at (s .registers) (z .registers) i (g (i % 32) (omega arith) .words)) in
+    let f : s .marks ≡ z .marks =
+          ext-getD 0 (s .marks) (z .marks) (g 0 (omega arith) .marksLen) (λ i l. at (s .marks) (z .marks) i (g (i % 32) (omega arith) .marks)) in
     let m : s .mask ≡ z .mask = bits-ext 32 (s .mask) (z .mask) h k (λ t l. g t l .bit) in
-    λ j. threadsAt (e j) (m j)
+    λ j. threadsAt (e j) (f j) (m j)
   where
-    at : (i : ℕ) → Agree (i % 32) s z → getD (s .registers) i 0 ≡ getD (z .registers) i 0
-    at i a =
+    at : (a b : List ℕ) (i : ℕ) → Same (i % 32) a b → getD a i 0 ≡ getD b i 0
+    at a b i w =
         let q : 32 * (i / 32) + i % 32 ≡ i = omega arith in
-        rw q at (a .words (i / 32))
+        rw q at (w (i / 32))
 
 -- ---- the theorem
 
-pub by-themselves : (c : Call) → c .mask < 2 ^ 32 → ByThemselves c (runOf c .last .threads .registers) (runOf c .last .threads .mask)
+pub by-themselves : (c : Call) → c .mask < 2 ^ 32
+    → ByThemselves c (runOf c .last .threads .registers) (runOf c .last .threads .marks) (runOf c .last .threads .mask)
 by-themselves c h order o =
     same-threads (perform c order start) (runOf c .last .threads) (mask-perform c order start h) (mask-left c h) (λ t l.
       let p = perform-alone c t l order (all-map (λ v q. q .0) order (o .only)) start start (agree-refl t start) in

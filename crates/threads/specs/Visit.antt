@@ -1,6 +1,6 @@
--- The threads by themselves: visits of one thread each, the orders of the visits of a run, and what they do to the registers and the
--- mask. Follows "The threads by themselves" of the statement of what to build: the machine is fed the arguments of the run call and an
--- order, and nothing from the records.
+-- The threads by themselves: visits of one thread each, the orders of the visits of a run, and what they do to the registers, the marks
+-- and the mask. Follows "The threads by themselves" of the statement of what to build, and the change request on discard: the machine is
+-- fed the arguments of the run call and an order, and nothing from the records.
 use mathlib.Core.Path.{_≡_}
 use mathlib.Core.Bool.{Bool, cond}
 use mathlib.Core.List.{List, [], _∷_, map}
@@ -12,6 +12,7 @@ use Rattle.machine.specs.Lanes.{activeIn, pack}
 use Rattle.machine.specs.Words.{Tables, valueOf, storeOf}
 use Rattle.machine.specs.Meaning.{Meaning, writes, masks, jumps, meaningOf, both}
 use Rattle.machine.specs.State.{Threads, threadsAt}
+use Rattle.machine.specs.Marks.{eachMark, markAfter}
 use Rattle.machine.specs.Step.{Step, writeThread, nextOf, r0l, ownR0l}
 use Rattle.machine.specs.Run.{Call, runOf, tablesOf}
 use Rattle.machine.specs.declared.input.Input.{Input}
@@ -31,16 +32,21 @@ setBit mask t b = pack 32 (λ u. cond (eqb u t) b (activeIn mask u))
 abbrev pub readBy : ℕ → Tables → Threads → Input → ℕ
 readBy t tables s x = valueOf tables (s .registers) x t
 
+-- thread t's marks, made anew as those of a step; the others' stay
+unfoldable pub visitMarks : Meaning → ℕ → ℕ → List ℕ → List ℕ
+visitMarks m mask t marks = eachMark (λ h u byte. cond (eqb u t) (markAfter m mask h u byte) byte) marks
+
 -- Data: if its mask bit is set, the thread reads all its sources, then writes its result. Mask instruction: whatever its bit, it reads
--- its sources, then works on its r0l, then on its bit. Jump: nothing.
+-- its sources, then works on its r0l, then on its bit. Either then marks the thread's halves that a source discards, whatever its bit, and
+-- clears those that it has written. Jump: nothing.
 unfoldable pub visitThread : Meaning → Tables → ℕ → Threads → Threads
 visitThread (writes d a b c result) tables t s =
     let read = readBy t tables s in
-    threadsAt (writeThread d result (s .mask) t (read a) (read b) (read c) (s .registers)) (s .mask)
-visitThread (masks a b result) tables t s =
+    threadsAt (writeThread d result (s .mask) t (read a) (read b) (read c) (s .registers)) (visitMarks (writes d a b c result) (s .mask) t (s .marks)) (s .mask)
+visitThread (masks compares a b result) tables t s =
     let read = readBy t tables s in
     let next = nextOf result (read a) (read b) (read ownR0l) in
-    threadsAt (storeOf r0l t next (s .registers)) (setBit (s .mask) t (eqb next 0))
+    threadsAt (storeOf r0l t next (s .registers)) (visitMarks (masks compares a b result) (s .mask) t (s .marks)) (setBit (s .mask) t (eqb next 0))
 visitThread (jumps any offset) tables t s = s
 
 -- the instructions that the run steps; a refused one is not among them
@@ -86,8 +92,8 @@ pub record Order (n : ℕ) (order : List Visit) : Type 0 where
 
 -- ---- the claim
 
--- after every order, all register words and the mask are these
-abbrev pub ByThemselves : Call → List ℕ → ℕ → Type 0
-ByThemselves c registers mask =
+-- after every order, all register words, all marks and the mask are these
+abbrev pub ByThemselves : Call → List ℕ → List ℕ → ℕ → Type 0
+ByThemselves c registers marks mask =
     (order : List Visit) → Order (length (runOf c .steps)) order
-    → perform c order (threadsAt (c .registers) (c .mask)) ≡ threadsAt registers mask
+    → perform c order (threadsAt (c .registers) (c .marks) (c .mask)) ≡ threadsAt registers marks mask
