@@ -25,6 +25,7 @@ use Rattle.alu.specs.Results.{resultAt}
 use Rattle.lanes.specs.Sources.{rowOver, gatherOver, InSize, Bounded}
 use Rattle.lanes.specs.Results.{storeLane, zeroAt}
 use Rattle.lanes.proofs.Columns.{write-all, mask-registers, mask-bits}
+use Rattle.effect.specs.Acted.{Masked}
 use Rattle.effect.specs.Rows.{Rows, rows, Fit, workedOn, rowsFor, rowsAfter}
 
 below : (x : Input) (row : List ℕ) (size : ℕ) → Fits x size → InSize x row → Within row size
@@ -82,13 +83,13 @@ module _ (o : Operation) (tables : Tables) (registers : List ℕ) (x y z : Input
 
   -- a mask instruction
   pub masked : (after : List ℕ) (mask : ℕ) → after ≡ each 32 (storeLane values 4294967295 r0l) registers → mask ≡ pack 32 (zeroAt values)
-      → threadsAt after mask ≡ maskAll (resultBy o) (gatherOf tables registers x y z) registers
-  unfolding resultAt
-  masked after mask l m =
+      → Masked (resultBy o) (gatherOf tables registers x y z) registers after mask
+  unfolding resultAt maskAll
+  masked after mask l m marks =
       let s = gatherOf tables registers x y z in
-      let e : after ≡ maskAll (resultBy o) s registers .registers = l ∙ mask-registers (resultBy o) s values computed registers in
-      let b : mask ≡ maskAll (resultBy o) s registers .mask = m ∙ mask-bits (resultBy o) s values computed registers in
-      λ i. threadsAt (e i) (b i)
+      let e : after ≡ maskAll (resultBy o) s registers marks .registers = l ∙ mask-registers (resultBy o) s values computed registers marks in
+      let b : mask ≡ maskAll (resultBy o) s registers marks .mask = m ∙ mask-bits (resultBy o) s values computed registers marks in
+      λ i. threadsAt (e i) marks (b i)
 
 -- ---- the rows keep their sizes
 

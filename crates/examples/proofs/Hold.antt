@@ -11,14 +11,15 @@ use Rattle.isa.specs.Parts.{partsOf, lengthFor}
 use Rattle.encoding.specs.Write.{fieldsFor, wordFor}
 use Rattle.encode.specs.Encode.{accepts, encodedOf, encodingLeft}
 use Rattle.machine.specs.Integer.{signExtend, modulo}
-use Rattle.machine.specs.Lanes.{tab, each, activeIn, pack}
+use Rattle.machine.specs.Lanes.{tab, each, activeIn, pack, anyBelow}
 use Rattle.machine.specs.Words.{sourceValue, valueOf, storeOf}
 use Rattle.machine.specs.Meaning.{mov, getSr, asr, asrh, popExec, meaningOf}
+use Rattle.machine.specs.Marks.{readsOf, discardsOf, clearsOf, readsMarked, eachMark, markAfter, marksAfter}
 use Rattle.machine.specs.Step.{writeThread, nextOf, gatherOf, writeAll, nextAt, maskAll, threadsAfter, goingOf, stepBy, stepOf}
 use Rattle.machine.specs.Record.{recordOf, recordsOf, roomAfter}
 use Rattle.machine.specs.Run.{arranged, runFrom, runOf, answerOf}
 use Rattle.examples.specs.Examples.{Example, outcomeOf, examples}
 
 pub examples-hold : (mask : ℕ) → map (λ (e : Example). outcomeOf (e .call)) (examples mask) ≡ map (λ (e : Example). e .outcome) (examples mask)
-unfolding rows forms decodeOf destinationOf sourceOf uniformOf unary binary withDst withBinary partsOf lengthFor fieldsFor wordFor accepts encodedOf encodingLeft signExtend modulo tab each activeIn pack sourceValue valueOf storeOf mov getSr asr asrh popExec meaningOf writeThread nextOf gatherOf writeAll nextAt maskAll threadsAfter goingOf stepBy stepOf recordOf recordsOf roomAfter arranged runFrom runOf answerOf
+unfolding rows forms decodeOf destinationOf sourceOf uniformOf unary binary withDst withBinary partsOf lengthFor fieldsFor wordFor accepts encodedOf encodingLeft signExtend modulo tab each activeIn pack anyBelow readsOf discardsOf clearsOf readsMarked eachMark markAfter marksAfter sourceValue valueOf storeOf mov getSr asr asrh popExec meaningOf writeThread nextOf gatherOf writeAll nextAt maskAll threadsAfter goingOf stepBy stepOf recordOf recordsOf roomAfter arranged runFrom runOf answerOf
 examples-hold mask = refl

@@ -1,5 +1,6 @@
 -- The bench examples marked (P) in the statement of what to build, in its order: one list. Each is a run with its bytes, what the bytes
--- decode to, and what the run answers and leaves; what decodes also encodes to its own bytes.
+-- decode to, and what the run answers and leaves; what decodes also encodes to its own bytes. The marks are lent clear, and no example
+-- discards, so that they stay so.
 use mathlib.Core.Bool.{cond}
 use mathlib.Core.List.{List, [], _∷_, _++_}
 use mathlib.Core.Option.{Option, none, some}
@@ -18,7 +19,7 @@ use Rattle.isa.specs.declared.instruction.Instruction.{Instruction}
 use Rattle.isa.specs.declared.answer.Decoded.{Decoded}
 use Rattle.isa.specs.declared.answer.Encoded.{Encoded}
 use Rattle.encode.specs.Encode.{encodedOf, encodingLeft}
-use Rattle.machine.specs.Run.{Call, runOf, answerOf, registersLeft, recordsLeft}
+use Rattle.machine.specs.Run.{Call, runOf, answerOf, registersLeft, marksLeft, recordsLeft}
 use Rattle.machine.specs.declared.answer.Ending.{Ending}
 use Rattle.machine.specs.declared.answer.Answer.{Answer}
 
@@ -33,6 +34,7 @@ pub record Outcome : Type 0 where
   pub encoded : Option Written
   pub answer : Answer
   pub registers : List ℕ
+  pub marks : List ℕ
   pub records : List ℕ
 
 pub record Example : Type 0 where
@@ -54,7 +56,7 @@ abbrev pub outcomeOf : Call → Outcome
 outcomeOf c =
     record {
       decoded = decodeOf (c .code); encoded = encodes (decodeOf (c .code));
-      answer = answerOf (runOf c); registers = registersLeft c; records = recordsLeft c;
+      answer = answerOf (runOf c); registers = registersLeft c; marks = marksLeft c; records = recordsLeft c;
     }
 
 -- ---- by the statement of what to build
@@ -77,6 +79,10 @@ words n f = wordsFrom (32 * n) 0 f
 abbrev any : ℕ → ℕ → ℕ
 any r t = 0xABCD0000 + 256 * r + t
 
+-- marks of n registers
+abbrev clear : ℕ → List ℕ
+clear n = replicate (64 * n) 0
+
 abbrev room : ℕ → List ℕ
 room n = replicate n 0xEE
 
@@ -84,7 +90,7 @@ room n = replicate n 0xEE
 abbrev calls : List ℕ → ℕ → (ℕ → ℕ → ℕ) → ℕ → ℕ → ℕ → ℕ → Call
 calls code n f k mask budget bytes =
     record {
-      code = code; registers = words n f; uniforms = replicate 256 0; specials = words k any;
+      code = code; registers = words n f; marks = clear n; uniforms = replicate 256 0; specials = words k any;
       start = 0; mask = mask; budget = budget; records = room bytes;
     }
 
@@ -107,7 +113,7 @@ oneStep code i bytes class before after n f k g =
       outcome = record {
         decoded = Decoded.Found i bytes; encoded = itself (Decoded.Found i bytes) code;
         answer = answers Ending.Finished 1 bytes (after .value);
-        registers = words n g;
+        registers = words n g; marks = clear n;
         records = (0 ∷ 0 ∷ bytes ∷ class ∷ []) ++ before .spelled ++ after .spelled ++ (0 ∷ 0 ∷ 0 ∷ 0 ∷ []) ++ room 16;
       };
     }
@@ -123,7 +129,7 @@ stays code d n k budget bytes ending =
       call = calls code n any k (allActive .value) budget bytes;
       outcome = record {
         decoded = d; encoded = itself d code;
-        answer = answers ending 0 0 (allActive .value); registers = words n any; records = room bytes;
+        answer = answers ending 0 0 (allActive .value); registers = words n any; marks = clear n; records = room bytes;
       };
     }
 

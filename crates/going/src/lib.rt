@@ -1,5 +1,5 @@
 // Where a run goes on after an instruction, and which instructions are refused: registers and special registers that are not lent, and
-// targets outside the code.
+// targets outside the code. And whether an instruction discards.
 ghost use mathlib.Core.Path.{_≡_};
 ghost use Prim.Native.Nat.{_<_, _^_};
 ghost use Rattle.machine.specs.Integer.{signExtend};
@@ -7,7 +7,10 @@ ghost use Rattle.machine.specs.Meaning.{jumps};
 ghost use Rattle.machine.specs.Step.{registersReach, specialsReach, goingOf};
 ghost use Rattle.operations.specs.Action.{meaningBy};
 ghost use Rattle.jumps.specs.AsGoing.{asGoing};
+ghost use Rattle.going.specs.Discards.{hinted, discarding};
 
+use isa::operand::Hint;
+use machine::input::Input;
 use operations::action::Action;
 use operations::action::Kind;
 use jumps::Going;
@@ -43,6 +46,39 @@ pub fn specials_reach(action: Action) -> u16
         Kind::JumpsIfAny => 0,
         Kind::JumpsIfNone => 0,
     }
+}
+
+fn discards_in(x: Input) -> bool
+    ensures { λ r. ⌜ r ≡ hinted x ⌝ }
+{
+    match x {
+        Input::Nothing => false,
+        Input::Operand(a) => {
+            let hint = a.hint;
+            match hint {
+                Hint::None => false,
+                Hint::Cache => false,
+                Hint::Discard => true,
+            }
+        }
+        Input::Special(_) => false,
+    }
+}
+
+// Whether a source has the hint discard.
+pub fn discards(action: Action) -> bool
+    ensures { λ r. ⌜ r ≡ discarding action ⌝ }
+{
+    let a = action.a;
+    if discards_in(a) {
+        return true;
+    }
+    let b = action.b;
+    if discards_in(b) {
+        return true;
+    }
+    let c = action.c;
+    discards_in(c)
 }
 
 fn jumps_to(any: bool, off: u32, length: usize, bytes: usize, address: usize, mask: u32) -> Going

@@ -1,22 +1,21 @@
 -- Where the values are the results of all threads modulo 2 ^ 64, the loops over all threads do what a step does thread by thread.
 use mathlib.Core.Path.{_≡_, ap, _∙_}
-use mathlib.Core.Bool.{Bool, true, cond}
+use mathlib.Core.Bool.{Bool, cond}
 use mathlib.Core.List.{List}
-use Prim.Native.Nat.{ℕ, suc, _+_, _*_, _-_, _/_, _%_, _^_, _<_}
+use Prim.Native.Nat.{ℕ, _+_, _*_, _-_, _/_, _%_, _^_, _<_}
 use native.Mathlib.Nat.{mod-lt}
 use native.Mathlib.Omega.{arith}
 use lib.Dec.{eqb}
 use lib.IntN.{ℤ, pos, negsuc}
 use lib.ListN.{getD}
-use lib.Pow.{pow-pos, pow-add, mod-mod-pow, mod-pow-add, low, high, ones-split, ones-lt}
-use borrow.Author.Tests.{eq-eqb}
+use lib.Pow.{pow-pos, pow-add, mod-mod-pow, mod-pow-add, low}
 use Rattle.isa.specs.declared.operand.Destination.{Destination}
 use Rattle.machine.specs.Integer.{modulo}
 use Rattle.machine.specs.Lanes.{tab, activeIn, pack}
 use Rattle.machine.specs.Words.{storeOf, destinationSize}
 use Rattle.machine.specs.Step.{Result, sourceAt, writeThread, nextOf, nextAt, writeAll, maskAll, r0l}
 use Rattle.machine.proofs.Tab.{getD-tab, each-cong}
-use Rattle.machine.proofs.Masks.{pack-cong}
+use Rattle.machine.proofs.Masks.{pack-cong, all-active}
 use Rattle.lanes.specs.Results.{storeLane, storeAll, zeroAt}
 
 -- an integer modulo two to a number of bits, modulo two to fewer
@@ -41,16 +40,6 @@ size-mod (Destination.Half h) z = modulo-mod z 48 16
 size-mod (Destination.Register r) z = modulo-mod z 32 32
 size-mod (Destination.Pair r) z = modulo-mod z 0 64
 
--- every bit of the mask of 32 ones is set
-all-active : (t : ℕ) → t < 32 → activeIn 4294967295 t ≡ true
-unfolding activeIn
-all-active t h =
-    let m : ℕ = 31 - t in
-    let e : 32 ≡ suc m + t = omega arith in
-    let s : 4294967295 ≡ (2 ^ suc m - 1) * 2 ^ t + (2 ^ t - 1) = ap (λ (x : ℕ). 2 ^ x - 1) e ∙ ones-split (suc m) t in
-    let d : 4294967295 / 2 ^ t ≡ 2 ^ suc m - 1 = ap (λ (x : ℕ). x / 2 ^ t) s ∙ high (2 ^ suc m - 1) t (ones-lt t) in
-    eq-eqb (4294967295 / 2 ^ t % 2) 1 (ap (λ (x : ℕ). x % 2) d ∙ omega (arith, pow-pos m))
-
 module _ (result : Result) (sources : List (List ℕ)) (values : List ℕ)
     (e : values ≡ tab 32 (λ t. modulo (result (sourceAt sources 0 t) (sourceAt sources 1 t) (sourceAt sources 2 t)) 64)) where
   -- what a destination holds of a thread's value
@@ -73,17 +62,17 @@ module _ (result : Result) (sources : List (List ℕ)) (values : List ℕ)
       (λ t h words. ap (λ (v : ℕ). cond (activeIn mask t) (storeOf d t v words) words) (value-at d t h)) registers
 
   -- a mask instruction writes r0l of every thread, active or not
-  pub mask-registers : (registers : List ℕ)
-      → storeAll values 4294967295 r0l registers ≡ maskAll result sources registers .registers
+  pub mask-registers : (registers marks : List ℕ)
+      → storeAll values 4294967295 r0l registers ≡ maskAll result sources registers marks .registers
   unfolding storeLane maskAll nextAt nextOf
-  mask-registers registers =
+  mask-registers registers marks =
       each-cong 32 (storeLane values 4294967295 r0l) (λ t. storeOf r0l t (nextAt result sources t))
       (λ t h words.
       ap (λ (on : Bool). cond on (storeOf r0l t (getD values t 0 % 2 ^ 16) words) words) (all-active t h)
       ∙ ap (λ (v : ℕ). storeOf r0l t v words) (value-at r0l t h)) registers
 
   -- and makes a new mask
-  pub mask-bits : (registers : List ℕ) → pack 32 (zeroAt values) ≡ maskAll result sources registers .mask
+  pub mask-bits : (registers marks : List ℕ) → pack 32 (zeroAt values) ≡ maskAll result sources registers marks .mask
   unfolding maskAll nextAt nextOf
-  mask-bits registers =
+  mask-bits registers marks =
       pack-cong 32 (zeroAt values) (λ t. eqb (nextAt result sources t) 0) (λ t h. ap (λ (v : ℕ). eqb v 0) (value-at r0l t h))

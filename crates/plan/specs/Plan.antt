@@ -1,6 +1,7 @@
 -- A plan, and of which code it is one: what decoding the bytes at its own address answers.
 use Prim.Native.Nat.{ℕ}
 use mathlib.Core.Path.{_≡_}
+use mathlib.Core.Bool.{false}
 use mathlib.Core.List.{List}
 use lib.ListN.{drop}
 use Rattle.isa.specs.Decode.{decodeOf}
@@ -15,6 +16,7 @@ use Rattle.operations.specs.Action.{meaningBy}
 use Rattle.operations.specs.declared.Operation.{Operation}
 use Rattle.operations.specs.declared.action.Kind.{Kind}
 use Rattle.operations.specs.declared.action.Action.{Action}
+use Rattle.going.specs.Discards.{discarding}
 use Rattle.action.specs.Acts.{Narrow, Acts, jumpsBy}
 use Rattle.plan.specs.declared.Plan.{Plan}
 use Rattle.plan.specs.declared.Verdict.{Verdict}
@@ -23,13 +25,13 @@ use Rattle.plan.specs.declared.Verdict.{Verdict}
 abbrev pub planWith : Action → ℕ → ℕ → Plan
 planWith action address bytes = record {
   address = address; bytes = bytes; registers = registersReach (meaningBy action); specials = specialsReach (meaningBy action);
-  verdict = Verdict.Acts; action = action;
+  discards = discarding action; verdict = Verdict.Acts; action = action;
 }
 
 -- the plan of a refusal
 abbrev pub refusedWith : Refusal → ℕ → Plan
 refusedWith r address = record {
-  address = address; bytes = 0; registers = 0; specials = 0; verdict = Verdict.Refused r; action = jumpsBy Kind.JumpsIfAny 0;
+  address = address; bytes = 0; registers = 0; specials = 0; discards = false; verdict = Verdict.Refused r; action = jumpsBy Kind.JumpsIfAny 0;
 }
 
 -- a plan that does what an instruction of so many bytes means

@@ -22,13 +22,15 @@ pub enum Verdict {
     Refused(Refusal),
 }
 
-// The address, the length of the instruction there, how many registers and special registers there have to be for it, and its action. Of a
+// The address, the length of the instruction there, how many registers and special registers there have to be for it, whether it discards,
+// and its action. Of a
 // plan that is refused, only the address and the refusal say something.
 pub struct Plan {
     pub address: usize,
     pub bytes: usize,
     pub registers: u16,
     pub specials: u16,
+    pub discards: bool,
     pub verdict: Verdict,
     pub action: Action,
 }
@@ -38,7 +40,7 @@ fn refused(r: Refusal, address: usize) -> Plan
 {
     let none = Input::Nothing;
     let action = Action { kind: Kind::JumpsIfAny, d: Destination::Half(0), a: none, b: none, c: none, operation: Operation::Mov(0), off: 0 };
-    Plan { address, bytes: 0, registers: 0, specials: 0, verdict: Verdict::Refused(r), action }
+    Plan { address, bytes: 0, registers: 0, specials: 0, discards: false, verdict: Verdict::Refused(r), action }
 }
 
 fn acting(action: Action, address: usize, bytes: usize) -> Plan
@@ -46,7 +48,8 @@ fn acting(action: Action, address: usize, bytes: usize) -> Plan
 {
     let registers = going::registers_reach(action);
     let specials = going::specials_reach(action);
-    Plan { address, bytes, registers, specials, verdict: Verdict::Acts, action }
+    let discards = going::discards(action);
+    Plan { address, bytes, registers, specials, discards, verdict: Verdict::Acts, action }
 }
 
 fn planned(r: Reading, address: usize, bytes: usize) -> Plan

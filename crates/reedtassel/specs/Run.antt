@@ -7,7 +7,7 @@ use lib.IntN.{ℤ}
 use Rattle.runbytes.specs.RunBytes.{Lent, endingOf, Leaves, ThreadsAlone}
 use Rattle.answers.specs.Returned.{endedBy}
 
-pub record RunsBytes (l : Lent) (returned : ℤ) (registers records answer : List ℕ) : Type 0 where
+pub record RunsBytes (l : Lent) (returned : ℤ) (registers marks records answer : List ℕ) : Type 0 where
   pub returns : returned ≡ endedBy (endingOf l)
-  pub leaves : Leaves l registers records answer
-  pub threads : ThreadsAlone l registers answer
+  pub leaves : Leaves l registers marks records answer
+  pub threads : ThreadsAlone l registers marks answer

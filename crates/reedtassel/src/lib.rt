@@ -26,11 +26,11 @@ pub extern "C" fn reedtassel_encode(instruction: &[u8], out: &mut [u8]) -> i32
 
 // A run on the words that the bytes spell. Refused with 1, nothing is written.
 #[no_mangle]
-pub extern "C" fn reedtassel_run(code: &[u8], registers: &mut [u8], uniforms: &[u8], specials: &[u8], start: usize, mask: u32, budget: usize, records: &mut [u8], answer: &mut [u8]) -> i32
-    ensures { λ r. ⌜ RunsBytes (lentOf (now (code .entry)) (now (registers .entry)) (now (uniforms .entry)) (now (specials .entry)) start mask budget (now (records .entry)) (now (answer .entry)))
-        r (now (registers .exit)) (now (records .exit)) (now (answer .exit)) ⌝ }
+pub extern "C" fn reedtassel_run(code: &[u8], registers: &mut [u8], marks: &mut [u8], uniforms: &[u8], specials: &[u8], start: usize, mask: u32, budget: usize, records: &mut [u8], answer: &mut [u8]) -> i32
+    ensures { λ r. ⌜ RunsBytes (lentOf (now (code .entry)) (now (registers .entry)) (now (marks .entry)) (now (uniforms .entry)) (now (specials .entry)) start mask budget (now (records .entry)) (now (answer .entry)))
+        r (now (registers .exit)) (now (marks .exit)) (now (records .exit)) (now (answer .exit)) ⌝ }
 {
-    returned::ended(runbytes::run(code, registers, uniforms, specials, start, mask, budget, records, answer))
+    returned::ended(runbytes::run(code, registers, marks, uniforms, specials, start, mask, budget, records, answer))
 }
 
 // The kernel of a text in Intel HEX, and its length. Refused, the buffer is untouched; the number of a bad row is told.

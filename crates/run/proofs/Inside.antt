@@ -15,6 +15,7 @@ use Rattle.isa.proofs.Found.{found-length}
 use Rattle.machine.specs.Words.{Tables}
 use Rattle.machine.specs.Meaning.{Meaning, writes, masks, jumps, meaningOf, both}
 use Rattle.machine.specs.State.{State}
+use Rattle.machine.specs.Marks.{readsMarked}
 use Rattle.machine.specs.Step.{Going, to, nowhere, taken, landing, goingOf, goTo, Step, Stepped, accepted, refused}
 use Rattle.machine.specs.Step.{registersReach, specialsReach, stepBy, stepOf}
 
@@ -35,7 +36,7 @@ landed size (negsuc below) = tt
 gone : (m : Meaning) (size bytes address mask : ℕ) → address + bytes ≤ size → AddressWithin size (goingOf m size bytes address mask)
 unfolding goingOf
 gone (writes d a b c result) size bytes address mask h = h
-gone (masks a b result) size bytes address mask h = h
+gone (masks compares a b result) size bytes address mask h = h
 gone (jumps any offset) size bytes address mask h = go (taken any mask)
   where
     go : (b : Bool) → AddressWithin size (cond b (landing size (pos address +ℤ offset)) (to (address + bytes) 3))
@@ -52,17 +53,18 @@ module _ (code : List ℕ) (tables : Tables) (s : State) (h : s .address ≤ len
   by-decoded (Decoded.Refused r) e = tt
   by-decoded (Decoded.Found i n) e =
       held (leb (32 * registersReach (meaningOf i)) (length (s .threads .registers)))
-      (leb (32 * specialsReach (meaningOf i)) (length (tables .specials)))
+      (leb (32 * specialsReach (meaningOf i)) (length (tables .specials))) (readsMarked (meaningOf i) (s .threads))
       (goingOf (meaningOf i) (length code) n (s .address) (s .threads .mask))
       (gone (meaningOf i) (length code) n (s .address) (s .threads .mask)
         (omega (arith, found-length (drop (s .address) code) i n e, length-drop (s .address) code)))
     where
-      held : (a b : Bool) (g : Going) → AddressWithin (length code) g
-          → Stays (length code) (cond a (cond b (goTo g i n tables s) (refused (refusal 6))) (refused (refusal 5)))
-      held true true (to address class) w = w
-      held true true (nowhere r) w = tt
-      held true false g w = tt
-      held false b g w = tt
+      held : (a b c : Bool) (g : Going) → AddressWithin (length code) g
+          → Stays (length code) (cond a (cond b (cond c (refused (refusal 10)) (goTo g i n tables s)) (refused (refusal 6))) (refused (refusal 5)))
+      held true true true g w = tt
+      held true true false (to address class) w = w
+      held true true false (nowhere r) w = tt
+      held true false c g w = tt
+      held false b c g w = tt
 
   pub step-inside : (step : Step) → stepOf code tables s ≡ accepted step → step .after .address ≤ length code
   unfolding stepOf

@@ -1,5 +1,6 @@
 -- The cache: at first, and where the plan of an address is looked up.
 use mathlib.Core.Path.{_≡_, refl, sym, subst, ap, _∙_}
+use mathlib.Core.Bool.{false}
 use mathlib.Core.List.{List}
 use mathlib.Core.Logic.{_⊎_, inl, inr}
 use Prim.Native.Nat.{ℕ, _<_}
@@ -26,7 +27,7 @@ use Rattle.run.specs.Cache.{slots, Cached}
 -- what stands past the end of the cache
 abbrev pub noPlan : Plan
 noPlan = record {
-  address = 0; bytes = 0; registers = 0; specials = 0; verdict = Verdict.Acts;
+  address = 0; bytes = 0; registers = 0; specials = 0; discards = false; verdict = Verdict.Acts;
   action = actionWith Kind.Writes (Destination.Half 0) none none none (Operation.Mov 0) 0;
 }
 

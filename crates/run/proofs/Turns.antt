@@ -46,7 +46,7 @@ module _ (code : List ℕ) (tables : Tables) (s : State) where
 -- ---- on the way
 
 -- after some steps: the sizes, and that what is still to run leaves what the whole run leaves
-pub record OnWay (c : Call) (registers room : List ℕ) (address mask steps : ℕ) : Type 0 where
+pub record OnWay (c : Call) (registers marks room : List ℕ) (address mask steps : ℕ) : Type 0 where
   pub fits : c .mask < 2 ^ 32
   pub code : length (c .code) ≤ codeLimit
   pub budget : c .budget ≤ budgetLimit
@@ -54,76 +54,79 @@ pub record OnWay (c : Call) (registers room : List ℕ) (address mask steps : �
   pub inside : address ≤ length (c .code)
   pub within : steps ≤ c .budget
   pub registersKept : length registers ≡ length (c .registers)
+  pub marksKept : length marks ≡ length (c .marks)
+  pub twice : length (c .marks) ≡ 2 * length (c .registers)
   pub roomKept : length room ≡ length (c .records)
-  pub toRun : leavesBy steps room (runFrom (c .code) (tablesOf c) (c .budget - steps) (stateAt (threadsAt registers mask) address))
+  pub toRun : leavesBy steps room (runFrom (c .code) (tablesOf c) (c .budget - steps) (stateAt (threadsAt registers marks mask) address))
       ≡ leavesBy 0 (c .records) (runOf c)
 
 pub sizes-arranged : (c : Call) (t : Bool) → t ≡ arrangedIn c → not t ≡ false → arranged c ≡ true
 sizes-arranged c t e f = sym (e ∙ arranged-in c) ∙ not-false t f
 
-pub at-start : {c : Call} → c .mask < 2 ^ 32 → arranged c ≡ true → OnWay c (c .registers) (c .records) (c .start) (c .mask) 0
+pub at-start : {c : Call} → c .mask < 2 ^ 32 → arranged c ≡ true → OnWay c (c .registers) (c .marks) (c .records) (c .start) (c .mask) 0
 unfolding runOf
 at-start {c} h a =
     let s = sizes c a in
     record {
       fits = h; code = s .code; budget = s .budget; space = s .room; inside = s .inside; within = omega arith;
-      registersKept = refl; roomKept = refl;
+      registersKept = refl; marksKept = refl; twice = s .marks; roomKept = refl;
       toRun = rw (a, sub-zero);
     }
 
-module _ {c : Call} {registers room : List ℕ} {address mask steps : ℕ} (w : OnWay c registers room address mask steps) where
+module _ {c : Call} {registers marks room : List ℕ} {address mask steps : ℕ} (w : OnWay c registers marks room address mask steps) where
   abbrev here : State
-  here = stateAt (threadsAt registers mask) address
+  here = stateAt (threadsAt registers marks mask) address
 
   abbrev runs : ℕ → Run
   runs n = runFrom (c .code) (tablesOf c) n here
 
-  ends-here : (ending : Ending) → runs (c .budget - steps) ≡ ends ending here → Ran c (answer ending steps address mask) registers room
+  ends-here : (ending : Ending) → runs (c .budget - steps) ≡ ends ending here → Ran c (answer ending steps address mask) registers marks room
   ends-here ending e =
-      promised c (w .fits) ending steps address mask registers room
+      promised c (w .fits) ending steps address mask registers marks room
       (sym (left-end steps room ending here) ∙ ap (leavesBy steps room) (sym e) ∙ w .toRun)
 
-  pub at-end : address ≡ length (c .code) → Ran c (answer Ending.Finished steps address mask) registers room
+  pub at-end : address ≡ length (c .code) → Ran c (answer Ending.Finished steps address mask) registers marks room
   at-end e = ends-here Ending.Finished (finishes (c .code) (tablesOf c) here (c .budget - steps) e)
 
-  pub at-spent : (address ≡ length (c .code) → ⊥) → steps ≡ c .budget → Ran c (answer Ending.Spent steps address mask) registers room
+  pub at-spent : (address ≡ length (c .code) → ⊥) → steps ≡ c .budget → Ran c (answer Ending.Spent steps address mask) registers marks room
   at-spent ne e =
       let z : c .budget - steps ≡ 0 = omega arith in
       ends-here Ending.Spent (ap runs z ∙ spends (c .code) (tablesOf c) here ne)
 
   -- one more step, of which the code has told
-  module _ (ne : address ≡ length (c .code) → ⊥) (left : steps ≡ c .budget → ⊥) (turn : Turn) (registers′ : List ℕ)
-      (t : told turn registers′ ≡ toldBy (stepOf (c .code) (tablesOf c) here) registers) where
+  module _ (ne : address ≡ length (c .code) → ⊥) (left : steps ≡ c .budget → ⊥) (turn : Turn) (registers′ marks′ : List ℕ)
+      (t : told turn registers′ marks′ ≡ toldBy (stepOf (c .code) (tablesOf c) here) (threadsAt registers marks mask)) where
     abbrev ahead : ℕ
     ahead = c .budget - (steps + 1)
 
     budget-left : c .budget - steps ≡ suc ahead
     budget-left = let h = w .within in omega arith
 
-    pub at-refusal : (r : Refusal) → turn ≡ Turn.Stops r → Ran c (answer (Ending.Refused r) steps address mask) registers′ room
+    pub at-refusal : (r : Refusal) → turn ≡ Turn.Stops r → Ran c (answer (Ending.Refused r) steps address mask) registers′ marks′ room
     at-refusal r e = go (stepOf (c .code) (tablesOf c) here) refl (rw e at t)
       where
-        go : (x : Stepped) → stepOf (c .code) (tablesOf c) here ≡ x → stops r registers′ ≡ toldBy x registers
-            → Ran c (answer (Ending.Refused r) steps address mask) registers′ room
+        go : (x : Stepped) → stepOf (c .code) (tablesOf c) here ≡ x → stops r registers′ marks′ ≡ toldBy x (threadsAt registers marks mask)
+            → Ran c (answer (Ending.Refused r) steps address mask) registers′ marks′ room
         go (accepted step) x q = let z : _≡_ {A = ℕ} 0 1 = cc in absurd (omega arith)
         go (refused r′) x q =
             let same : r′ ≡ r = cc in
             let kept : registers′ ≡ registers = cc in
-            rw kept
+            let stay : marks′ ≡ marks = cc in
+            rw (kept, stay)
             (ends-here (Ending.Refused r)
               (ap runs budget-left ∙ refused-changes-nothing (c .code) (tablesOf c) ahead here r ne (x ∙ ap refused same)))
 
     -- the step's record is put behind those of the steps before
     pub at-step : (address′ mask′ bytes class : ℕ) (made room′ : List ℕ) → turn ≡ Turn.Goes address′ mask′ bytes class
-        → length registers′ ≡ length registers → made ≡ recordBytes address bytes class mask mask′ → room′ ≡ sets room (16 * steps) made
-        → OnWay c registers′ room′ address′ mask′ (steps + 1)
+        → length registers′ ≡ length registers → length marks′ ≡ length marks → made ≡ recordBytes address bytes class mask mask′ → room′ ≡ sets room (16 * steps) made
+        → OnWay c registers′ marks′ room′ address′ mask′ (steps + 1)
     unfolding recordOf
-    at-step address′ mask′ bytes class made room′ e l m p = go (stepOf (c .code) (tablesOf c) here) refl (rw e at t)
+    at-step address′ mask′ bytes class made room′ e l l′ m p = go (stepOf (c .code) (tablesOf c) here) refl (rw e at t)
       where
         next : State
-        next = stateAt (threadsAt registers′ mask′) address′
-        go : (x : Stepped) → stepOf (c .code) (tablesOf c) here ≡ x → goes bytes class next ≡ toldBy x registers
-            → OnWay c registers′ room′ address′ mask′ (steps + 1)
+        next = stateAt (threadsAt registers′ marks′ mask′) address′
+        go : (x : Stepped) → stepOf (c .code) (tablesOf c) here ≡ x → goes bytes class next ≡ toldBy x (threadsAt registers marks mask)
+            → OnWay c registers′ marks′ room′ address′ mask′ (steps + 1)
         go (refused r) x q = let z : _≡_ {A = ℕ} 0 1 = cc in absurd (omega arith)
         go (accepted step) x q =
             let b : here ≡ step .before = sym (step-made (tablesOf c) here (c .code) step x .before) in
@@ -140,6 +143,8 @@ module _ {c : Call} {registers room : List ℕ} {address mask steps : ℕ} (w : 
               inside = rw (ap (λ (s : State). s .address) a) y;
               within = omega arith;
               registersKept = l ∙ w .registersKept;
+              marksKept = l′ ∙ w .marksKept;
+              twice = w .twice;
               roomKept = ap length p ∙ length-sets room (16 * steps) made ∙ w .roomKept;
               toRun =
                   ap₂ (λ (o : List ℕ) (s : State). leavesBy (steps + 1) o (rest s)) f a

@@ -36,7 +36,7 @@ module _ (l : Lent) where
   spelledIn = spelledBy registers uniforms specials (length (l .answer))
 
   abbrev arrangedIn : Bool
-  arrangedIn = arrangedBy (length (l .code)) (registers / 4) (uniforms / 4) (specials / 4) (l .start) (l .budget) (length (l .records))
+  arrangedIn = arrangedBy (length (l .code)) (registers / 4) (length (l .marks)) (uniforms / 4) (specials / 4) (l .start) (l .budget) (length (l .records))
 
   -- the sizes by lengths are the sizes of the words
   arranged-words : arrangedIn ≡ arranged (spelledCall l)
@@ -44,14 +44,14 @@ module _ (l : Lent) where
       rw (← length-words (l .registers), ← length-words (l .uniforms), ← length-words (l .specials)) (arranged-in (spelledCall l))
 
   abbrev Refused : Type 0
-  Refused = RanOnBytes l (Ending.Refused (refusal 1)) (l .registers) (l .records) (l .answer)
+  Refused = RanOnBytes l (Ending.Refused (refusal 1)) (l .registers) (l .marks) (l .records) (l .answer)
 
   refused-with-1 : callTaken l ≡ false → Refused
   unfolding endingOf
   refused-with-1 e =
       record {
         ends = rw e;
-        leaves = record { registers-left = rw e; records-left = rw e; answer-left = rw e };
+        leaves = record { registers-left = rw e; marks-left = rw e; records-left = rw e; answer-left = rw e };
         threads = λ t. let z : _≡_ {A = ℕ} 0 1 = cc in absurd (omega arith);
       }
 

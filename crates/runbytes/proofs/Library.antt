@@ -1,5 +1,5 @@
 -- Where the bytes spell words and the answer has room, the run on bytes is the run on the words in every case, also where that refuses
--- the call with 1: how it ended, the registers, the records.
+-- the call with 1: how it ended, the registers, the marks, the records.
 use mathlib.Core.Path.{_≡_, refl, sym, ap, _∙_}
 use mathlib.Core.Bool.{Bool, true, false}
 use mathlib.Core.List.{List}
@@ -8,7 +8,7 @@ use native.Mathlib.Omega.{arith}
 use borrow.Author.Tests.{eqb-true}
 use lib.ListN.{length}
 use Rattle.bits.proofs.Laws.{Bytes}
-use Rattle.machine.specs.Run.{arranged, runOf, answerOf, registersLeft, recordsLeft}
+use Rattle.machine.specs.Run.{arranged, runOf, answerOf, registersLeft, marksLeft, recordsLeft}
 use Rattle.machine.proofs.Runs.{badly-arranged}
 use Rattle.machine.proofs.Records.{nothing-written}
 use Rattle.machine.proofs.Sizes.{parts}
@@ -26,7 +26,7 @@ module _ (l : Lent) (s : spelled l ≡ true) where
       go true e = rw (s, e)
       go false e = rw (s, e, badly-arranged (spelledCall l) e)
 
-  module _ (bytes : Bytes (l .registers)) {registers records answer : List ℕ} (left : Leaves l registers records answer) where
+  module _ (bytes : Bytes (l .registers)) {registers marks records answer : List ℕ} (left : Leaves l registers marks records answer) where
     pub registers-alike : registers ≡ bytesFor (registersLeft (spelledCall l))
     unfolding spelled
     registers-alike = go (arranged (spelledCall l)) refl
@@ -38,6 +38,15 @@ module _ (l : Lent) (s : spelled l ≡ true) where
             let k : registers ≡ l .registers = rw (s, e) at (left .registers-left) in
             k ∙ sym (bytes-words (l .registers) (length (l .registers) / 4) bytes (omega arith)) ∙ ap bytesFor (sym (nothing-written (spelledCall l) e .0))
 
+    pub marks-alike : marks ≡ marksLeft (spelledCall l)
+    marks-alike = go (arranged (spelledCall l)) refl
+      where
+        go : (b : Bool) → arranged (spelledCall l) ≡ b → marks ≡ marksLeft (spelledCall l)
+        go true e = rw (s, e) at (left .marks-left)
+        go false e =
+            let k : marks ≡ l .marks = rw (s, e) at (left .marks-left) in
+            k ∙ sym (nothing-written (spelledCall l) e .1)
+
     pub records-alike : records ≡ recordsLeft (spelledCall l)
     records-alike = go (arranged (spelledCall l)) refl
       where
@@ -45,4 +54,4 @@ module _ (l : Lent) (s : spelled l ≡ true) where
         go true e = rw (s, e) at (left .records-left)
         go false e =
             let k : records ≡ l .records = rw (s, e) at (left .records-left) in
-            k ∙ sym (nothing-written (spelledCall l) e .1)
+            k ∙ sym (nothing-written (spelledCall l) e .2)

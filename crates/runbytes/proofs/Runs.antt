@@ -24,14 +24,14 @@ mask-fits c a e h = rw e (mask-left c h)
 module _ (l : Lent) {r u s : ℕ} (h : Space l r u s) where
   -- registers, uniforms and special registers in words; then the answer, registers and records that the run left, and what was made of them
   pub runs : (rw₀ uw sw : List ℕ) → rw₀ ≡ wordsOf (l .registers) → uw ≡ wordsOf (l .uniforms) → sw ≡ wordsOf (l .specials)
-      → (a : Answer) (words records : List ℕ)
-      → library.Ran (library.callOf (l .code) rw₀ uw sw (l .start) (l .mask) (l .budget) (l .records)) a words records
+      → (a : Answer) (words marks records : List ℕ)
+      → library.Ran (library.callOf (l .code) rw₀ (l .marks) uw sw (l .start) (l .mask) (l .budget) (l .records)) a words marks records
       → l .mask < 2 ^ 32 → (registers bytes answer : List ℕ) → (registers ≡ bytesFor words) × (wordsOf registers ≡ words)
       → bytes ≡ answerBytes a → answer ≡ sets (l .answer) 0 bytes
-      → RanIn l (a .ending) registers records answer words uw sw
+      → RanIn l (a .ending) registers marks records answer words uw sw
   unfolding endingOf
-  runs rw₀ uw sw er eu es a words records given fits registers bytes answer e f g =
-      let q : library.Ran (spelledCall l) a words records = rw (er, eu, es) at given in
+  runs rw₀ uw sw er eu es a words marks records given fits registers bytes answer e f g =
+      let q : library.Ran (spelledCall l) a words marks records = rw (er, eu, es) at given in
       let t = h .is-taken in
       let left : answer ≡ answerBytes a ++ drop answerLength (l .answer) =
             g ∙ ap (sets (l .answer) 0) f ∙ put-first (l .answer) (answerBytes a) answerLength refl (h .answer-fits) in
@@ -43,6 +43,7 @@ module _ (l : Lent) {r u s : ℕ} (h : Space l r u s) where
               leaves =
                   record {
                     registers-left = rw t (e .0 ∙ ap bytesFor (q .leaves));
+                    marks-left = rw t (q .marks-left);
                     records-left = rw t (q .writes);
                     answer-left = rw t (left ∙ ap (λ (x : Answer). answerBytes x ++ drop answerLength (l .answer)) (q .answers));
                   };

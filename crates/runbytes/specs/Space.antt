@@ -17,8 +17,8 @@ pub record Space (l : Lent) (registers uniforms specials : ℕ) : Type 0 where
   pub specials-fit : length (l .specials) ≡ 4 * specials
   pub answer-fits : answerLength ≤ length (l .answer)
 
-pub record RanIn (l : Lent) (ending : Ending) (registers records answer r u s : List ℕ) : Type 0 where
-  pub ran : RanOnBytes l ending registers records answer
+pub record RanIn (l : Lent) (ending : Ending) (registers marks records answer r u s : List ℕ) : Type 0 where
+  pub ran : RanOnBytes l ending registers marks records answer
   pub register-words : r ≡ registersLeft (spelledCall l)
   pub uniform-words : u ≡ wordsOf (l .uniforms)
   pub special-words : s ≡ wordsOf (l .specials)

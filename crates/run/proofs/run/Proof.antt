@@ -17,10 +17,12 @@ returns-2 c =
 
 run-arranged-requires : tie.Need-run-arranged-requires
 run-arranged-requires c κs =
-    let t = c .before .before .before .before .arranged in
-    sizes-arranged _ (t .result) (t .ensures) (c .before .before .before .if1 .left)
+    let t = c .before .before .before .before .before .arranged in
+    sizes-arranged _ (t .result) (t .ensures) (c .before .before .before .before .if1 .left)
 
 pub run-spec : {M : Type 1} → statement M
 run-spec =
     tie.close
-    (tie.spec (λ c κs. search needs) returns returns-2 run-arranged-requires (λ c. search needs) (λ c. search needs) (λ c. search needs))
+    (tie.spec
+    (λ c κs. search needs) returns returns-2 run-arranged-requires (λ c. search needs) (λ c. search needs) (λ c. search needs)
+    (λ c. search needs))
