@@ -1,7 +1,7 @@
 //! A small assembler: instruction bytes from fields, by the diagrams of document 002.
 
 /// An operand as a kernel's text names it. Registers and uniforms have their own numbers here, halves are named by them.
-#[derive(Clone, Copy)]
+#[derive(Clone, Copy, Debug, PartialEq, Eq)]
 pub enum Op {
     Imm(u64),
     Lo(u64),
@@ -12,11 +12,26 @@ pub enum Op {
     UHi(u64),
     U(u64),
     UPair(u64),
+    DiscardLo(u64),
+    DiscardHi(u64),
+    DiscardReg(u64),
+    DiscardPair(u64),
 }
 use Op::*;
 
 impl Op {
-    /// The joined number and the flag field of a source. Registers have no hint.
+    /// The same register, half or pair as a source with the discard hint.
+    pub fn discard(self) -> Op {
+        match self {
+            Lo(r) => DiscardLo(r),
+            Hi(r) => DiscardHi(r),
+            Reg(r) => DiscardReg(r),
+            Pair(r) => DiscardPair(r),
+            _ => panic!("nothing to discard"),
+        }
+    }
+
+    /// The joined number and the flag field of a source.
     fn source(self) -> (u64, u64) {
         let uniform = |half: u64, whole: u64| (half % 256, 0b0100 | whole << 1 | half >> 8);
         match self {
@@ -29,6 +44,10 @@ impl Op {
             UHi(u) => uniform(2 * u + 1, 0),
             U(u) => uniform(2 * u, 1),
             UPair(u) => uniform(2 * u + 1, 1),
+            DiscardLo(r) => (2 * r, 0b0011),
+            DiscardHi(r) => (2 * r + 1, 0b0011),
+            DiscardReg(r) => (2 * r, 0b1011),
+            DiscardPair(r) => (2 * r, 0b1111),
         }
     }
 

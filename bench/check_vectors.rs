@@ -21,6 +21,7 @@ use std::fmt::Write;
 struct Lent {
     code: Vec<u8>,
     registers: Vec<u32>,
+    marks: Vec<u8>,
     uniforms: Vec<u32>,
     specials: Vec<u32>,
     records: Vec<u8>,
@@ -72,10 +73,11 @@ fn run(asked: &[&str]) -> String {
         match key {
             "size " => lent.make(&numbers(rest)),
             "fill " => lent.fill(&numbers(rest)),
-            "code " => put(&mut lent.code, &numbers(&rest[..8]), &bytes(&rest[9..])),
+            "code " => put_bytes(&mut lent.code, rest),
             "regs " => put_words(&mut lent.registers, rest),
             "unif " => put_words(&mut lent.uniforms, rest),
             "spec " => put_words(&mut lent.specials, rest),
+            "mark " => put_bytes(&mut lent.marks, rest),
             "call " => return lent.run(&numbers(rest)),
             _ => assert_eq!(key, "name "),
         }
@@ -91,6 +93,7 @@ impl Lent {
         self.uniforms = vec![0; uniforms];
         self.specials = vec![0; specials];
         self.records = vec![0xA5; records];
+        self.marks = vec![0; sizes.get(5).map_or(2 * registers, |marks| *marks as usize)];
     }
 
     fn fill(&mut self, by: &[u32]) {
@@ -102,11 +105,12 @@ impl Lent {
     }
 
     fn run(&mut self, call: &[u32]) -> String {
-        let before = self.registers.clone();
+        let before = (self.registers.clone(), self.marks.clone());
         let (start, mask, budget) = (call[0] as usize, call[1], call[2] as usize);
         let answer = tried(
             &self.code,
             &mut self.registers,
+            &mut self.marks,
             &self.uniforms,
             &self.specials,
             start,
@@ -114,30 +118,40 @@ impl Lent {
             budget,
             &mut self.records,
         );
-        self.left(answer, &before)
+        self.left(answer, &before.0, &before.1)
     }
 
-    fn left(&self, answer: Answer, before: &[u32]) -> String {
+    fn left(&self, answer: Answer, registers: &[u32], marks: &[u8]) -> String {
         let ending = match answer.ending {
             Ending::Finished => "finished".to_string(),
             Ending::Spent => "spent".to_string(),
             Ending::Refused(number) => format!("refused {number}"),
         };
         let mut text = format!("ends {ending} {:08x} {:08x} {:08x}\n", answer.steps, answer.address, answer.mask);
-        for (row, (now, before)) in self.registers.chunks(32).zip(before.chunks(32)).enumerate() {
-            if now != before {
-                let words: Vec<String> = now.iter().map(|word| format!("{word:08x}")).collect();
-                writeln!(text, "regs {:08x} {}", 32 * row, words.join(" ")).unwrap();
-            }
+        for (at, words) in changed(&self.registers, registers) {
+            let words: Vec<String> = words.iter().map(|word| format!("{word:08x}")).collect();
+            writeln!(text, "regs {at:08x} {}", words.join(" ")).unwrap();
+        }
+        for (at, marks) in changed(&self.marks, marks) {
+            writeln!(text, "mark {at:08x} {}", digits(marks)).unwrap();
         }
         for (k, piece) in self.records.chunks(16).enumerate() {
             if piece.iter().any(|byte| *byte != 0xA5) {
-                let digits: String = piece.iter().map(|byte| format!("{byte:02x}")).collect();
-                writeln!(text, "recs {:08x} {digits}", 16 * k).unwrap();
+                writeln!(text, "recs {:08x} {}", 16 * k, digits(piece)).unwrap();
             }
         }
         text
     }
+}
+
+/// Each 32 values that are not as before, and where they stand.
+fn changed<'a, T: PartialEq>(now: &'a [T], before: &'a [T]) -> impl Iterator<Item = (usize, &'a [T])> {
+    let rows = now.chunks(32).zip(before.chunks(32)).enumerate();
+    rows.filter(|(_, (now, before))| now != before).map(|(row, (now, _))| (32 * row, now))
+}
+
+fn digits(bytes: &[u8]) -> String {
+    bytes.iter().map(|byte| format!("{byte:02x}")).collect()
 }
 
 fn numbers(text: &str) -> Vec<u32> {
@@ -151,6 +165,10 @@ fn bytes(text: &str) -> Vec<u8> {
 fn put<T: Copy>(all: &mut [T], at: &[u32], given: &[T]) {
     let at = at[0] as usize;
     all[at..at + given.len()].copy_from_slice(given);
+}
+
+fn put_bytes(all: &mut [u8], rest: &str) {
+    put(all, &numbers(&rest[..8]), &bytes(&rest[9..]));
 }
 
 fn put_words(all: &mut [u32], rest: &str) {

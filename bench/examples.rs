@@ -15,12 +15,14 @@ use plain::{run, Answer, Ending};
 const ALL: u32 = u32::MAX;
 const OLD: u32 = 0xCAFE_BABE;
 
-/// A run of one step's budget with `n` registers that all hold OLD, and what it left.
+/// A run of one step's budget with `n` registers that all hold OLD and clear marks, and what it left. None of these discards.
 fn one_step(code: &[u8], n: usize, k: usize, mask: u32) -> (Answer, Vec<u32>, [u8; 16]) {
     let mut registers = vec![OLD; 32 * n];
+    let mut marks = vec![0; 64 * n];
     let specials: Vec<u32> = (0..32 * k as u32).map(|j| j.wrapping_mul(0x0101_0101)).collect();
     let mut records = [0xA5; 16];
-    let answer = run(code, &mut registers, &[0; 256], &specials, 0, mask, 1, &mut records);
+    let answer = run(code, &mut registers, &mut marks, &[0; 256], &specials, 0, mask, 1, &mut records);
+    assert_eq!(marks, vec![0; 64 * n]);
     (answer, registers, records)
 }
 
@@ -103,8 +105,10 @@ fn get_sr_takes_special_5_and_69() {
 fn shifted(which: Asr, amount: u64) -> u32 {
     let code = code(|code| code.asr(which, Reg(2), Reg(1), Imm(amount)));
     let mut registers = [0x8000_0000; 96];
-    let answer = run(&code, &mut registers, &[0; 256], &[], 0, ALL, 1, &mut [0; 16]);
+    let mut marks = [0; 192];
+    let answer = run(&code, &mut registers, &mut marks, &[0; 256], &[], 0, ALL, 1, &mut [0; 16]);
     assert_eq!(answer, finished(&code, ALL));
+    assert_eq!(marks, [0; 192]);
     assert!(registers[64..].iter().all(|word| *word == registers[64]));
     registers[64]
 }
@@ -124,9 +128,10 @@ fn pop_exec_0_makes_the_mask_whatever_it_was() {
         let mut registers = [0xBEEF_0000; 32];
         registers[31] |= 3;
         let before = registers;
-        let answer = run(&code, &mut registers, &[0; 256], &[], 0, mask, 1, &mut [0; 16]);
+        let mut marks = [0; 64];
+        let answer = run(&code, &mut registers, &mut marks, &[0; 256], &[], 0, mask, 1, &mut [0; 16]);
         assert_eq!(answer, finished(&code, 0x7FFF_FFFF));
-        assert_eq!(registers, before);
+        assert_eq!((registers, marks), (before, [0; 64]));
     }
 }
 
@@ -140,7 +145,8 @@ fn empty_code_is_finished_at_once() {
 fn budgets_0_and_4097_are_refused() {
     for budget in [0, 4097] {
         let mut records = vec![0; 16 * 4097];
-        let answer = run(&[0x62, 4, 0x34, 0x12], &mut [OLD; 64], &[0; 256], &[], 0, ALL, budget, &mut records);
+        let code = [0x62, 4, 0x34, 0x12];
+        let answer = run(&code, &mut [OLD; 64], &mut [0; 128], &[0; 256], &[], 0, ALL, budget, &mut records);
         assert_eq!(answer, refused(1));
     }
 }

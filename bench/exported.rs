@@ -19,6 +19,8 @@ extern "C" {
         code_len: usize,
         registers: *mut u8,
         registers_len: usize,
+        marks: *mut u8,
+        marks_len: usize,
         uniforms: *const u8,
         uniforms_len: usize,
         specials: *const u8,
@@ -61,6 +63,8 @@ pub fn run(call: Call) -> i32 {
             call.code.len(),
             call.registers.as_mut_ptr(),
             call.registers.len(),
+            call.marks.as_mut_ptr(),
+            call.marks.len(),
             call.uniforms.as_ptr(),
             call.uniforms.len(),
             call.specials.as_ptr(),
@@ -90,6 +94,7 @@ pub fn hex_write(code: &[u8], text: &mut [u8]) -> i32 {
 pub fn run_words(
     code: &[u8],
     registers: &mut [u32],
+    marks: &mut [u8],
     uniforms: &[u32],
     specials: &[u32],
     start: usize,
@@ -101,7 +106,8 @@ pub fn run_words(
     let (uniforms, specials) = (&bytes(uniforms), &bytes(specials));
     let mut left = [0; ANSWER_BYTES];
     let answer = &mut left;
-    let given = run(Call { code, registers: &mut lent, uniforms, specials, start, mask, budget, records, answer });
+    let given =
+        run(Call { code, registers: &mut lent, marks, uniforms, specials, start, mask, budget, records, answer });
     registers.copy_from_slice(&words(&lent));
     if given == -1 {
         return Answer { ending: Ending::Refused(1), steps: 0, address: start, mask };

@@ -22,6 +22,7 @@ pub struct Kernel {
 /// What a run is lent besides the code.
 pub struct Lent {
     pub registers: Vec<u32>,
+    pub marks: Vec<u8>,
     pub uniforms: Vec<u32>,
     pub specials: Vec<u32>,
     pub records: Vec<u8>,
@@ -39,12 +40,14 @@ pub fn all() -> Vec<Kernel> {
         looped("moves and scans", u32::MAX, moves),
         looped("scans", u32::MAX, scans),
         looped("pop_exec and jumps", u32::MAX, pops),
+        looped("discards", u32::MAX, discards),
+        looped("discards, half active", 0x5A5A_3C96, discards),
         straight("8 KB without a loop", u32::MAX),
     ]
 }
 
-/// Fixed pseudo-random contents for so many registers, at least 4, and special registers. r0 is 0, as the mask stack wants it, and r1 to
-/// r3 are small.
+/// Fixed pseudo-random contents for so many registers, at least 4, and special registers; all marks clear. r0 is 0, as the mask stack wants
+/// it, and r1 to r3 are small.
 pub fn lent(registers: usize, specials: usize) -> Lent {
     let mut state = 0x2545_F491_4F6C_DD1Du64;
     let mut word = || {
@@ -53,12 +56,13 @@ pub fn lent(registers: usize, specials: usize) -> Lent {
         state ^= state << 17;
         (state >> 32) as u32
     };
+    let marks = vec![0; 64 * registers];
     let mut registers: Vec<u32> = (0..32 * registers).map(|_| word()).collect();
     registers[..32].fill(0);
     registers[32..128].iter_mut().for_each(|value| *value %= 200);
     let uniforms = (0..256).map(|_| word()).collect();
     let specials = (0..32 * specials).map(|_| word()).collect();
-    Lent { registers, uniforms, specials, records: vec![0; 16 * BUDGET] }
+    Lent { registers, marks, uniforms, specials, records: vec![0; 16 * BUDGET] }
 }
 
 /// The body, and a jump back to its start.
@@ -238,5 +242,29 @@ fn pops(code: &mut Code) {
         code.jmp_exec_any(over);
         code.pop_exec(3);
         code.pop_exec(2);
+    }
+}
+
+/// Every register source discards; it was written since it was discarded last, so nothing is refused.
+fn discards(code: &mut Code) {
+    for r in 4..8 {
+        let [first, second, third, fourth] = [r, r + 8, r + 16, r + 24].map(Reg);
+        let [pair, other] = [2 * r + 40, 2 * r + 60].map(Pair);
+        let drop = |op: Op| unsigned(op.discard());
+        code.iadd(third, drop(first), drop(second), PLUS);
+        code.imadd(pair, signed(Lo(r + 16).discard()), drop(Hi(r + 16)), drop(pair), shifted(1));
+        code.mov32(first, 0x89AB_CDEF ^ r);
+        code.iadd(other, drop(pair), drop(first), MINUS);
+        code.field(Field::Bfi, second, [Reg(2 * r + 60).discard(), Reg(2 * r + 61).discard(), Imm(13)], 11);
+        code.get_sr(first, r % 8);
+        code.mov16(Lo(r + 24), 0x1234 + r);
+        code.field(Field::Extr, fourth, [first.discard(), second.discard(), Lo(r + 24).discard()], 0);
+        code.asr(Asr::Low, third, fourth.discard(), Imm(7));
+        code.scan(Scan::Bitrev, third, third.discard());
+        code.bitop(second, Lo(r + 16).discard(), Hi(r + 16).discard(), XOR);
+        code.iadd(pair, drop(second), unsigned(U(r)), PLUS);
+        code.get_sr(second, (r + 3) % 8);
+        code.imadd(first, drop(Hi(r + 8)), unsigned(Imm(77)), drop(Lo(r + 8)), PLUS);
+        code.mov32(second, 0x1234_5678 ^ r);
     }
 }

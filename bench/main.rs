@@ -112,10 +112,33 @@ impl<P: Program> Timed<P> {
 
 fn leave_the_same(plain: &Timed<Plain>, proved: &Timed<Proved>) -> bool {
     let (own, other) = (plain.program.left(), proved.program.left());
-    let same =
-        [("answers", plain.answer == proved.answer), ("registers", own.0 == other.0), ("records", own.1 == other.1)];
+    let same = [
+        ("answers", plain.answer == proved.answer),
+        ("registers", own.0 == other.0),
+        ("marks", own.1 == other.1),
+        ("records", own.2 == other.2),
+    ];
     for (what, _) in same.iter().filter(|(_, same)| !same) {
         println!("  {what} differ");
     }
     same.iter().all(|(_, same)| *same)
+}
+
+#[cfg(test)]
+mod tests {
+    use super::*;
+
+    #[test]
+    fn both_programs_run_the_kernels_alike() {
+        for kernel in kernels::all() {
+            let mut plain = Timed::new(|| Plain(lent(REGISTERS, SPECIALS)));
+            let mut proved = Timed::new(|| Proved::from(lent(REGISTERS, SPECIALS)));
+            plain.round(&kernel, false);
+            proved.round(&kernel, false);
+            assert_eq!(plain.answer.map(|answer| answer.ending), Some(kernel.ending), "{}", kernel.name);
+            assert!(leave_the_same(&plain, &proved), "{}", kernel.name);
+            let marks = plain.program.left().1.iter().any(|mark| *mark != 0);
+            assert_eq!(marks, kernel.name.starts_with("discards"), "{}", kernel.name);
+        }
+    }
 }

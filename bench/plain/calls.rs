@@ -16,6 +16,7 @@ pub const ROW_BYTES: usize = 8;
 pub struct Call<'a> {
     pub code: &'a [u8],
     pub registers: &'a mut [u8],
+    pub marks: &'a mut [u8],
     pub uniforms: &'a [u8],
     pub specials: &'a [u8],
     pub start: usize,
@@ -61,8 +62,8 @@ pub fn run(call: Call) -> i32 {
     }
     let mut registers = words(call.registers);
     let (uniforms, specials) = (words(call.uniforms), words(call.specials));
-    let (start, mask, budget) = (call.start, call.mask, call.budget);
-    let answer = words_run(call.code, &mut registers, &uniforms, &specials, start, mask, budget, call.records);
+    let (marks, start, mask, budget) = (call.marks, call.start, call.mask, call.budget);
+    let answer = words_run(call.code, &mut registers, marks, &uniforms, &specials, start, mask, budget, call.records);
     if answer.ending == Ending::Refused(1) {
         return -1;
     }

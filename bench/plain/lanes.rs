@@ -2,6 +2,7 @@
 //!
 //! What an operand is, is decided once, outside the loops over the threads; the loops are then plain enough to be vectorised.
 
+use super::marks::{Chosen, Marks};
 use super::operand::{Destination, Source};
 use super::THREADS;
 
@@ -11,12 +12,14 @@ pub type Lanes = [u64; THREADS];
 /// A 32-bit word for each thread: a register.
 pub type Words = [u32; THREADS];
 
-/// What is lent to a run and read or written by its steps, and the mask.
+/// What is lent to a run and read or written by its steps, and the mask, as a number and as the threads that are set in it.
 pub struct State<'a> {
     pub registers: &'a mut [Words],
+    pub marks: &'a mut [Marks],
     pub uniforms: &'a [u32],
     pub specials: &'a [Words],
     pub mask: u32,
+    pub active: Chosen,
 }
 
 /// Whether a source is sign-extended from its own bit size or read unsigned.

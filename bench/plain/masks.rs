@@ -1,4 +1,4 @@
-//! The execution mask stack instructions: the new r0l of a thread, from its r0l and the comparison.
+//! The execution mask stack instructions: whether a thread compares, and its new r0l, from its r0l and the comparison.
 
 use super::decode::{Condition, Test};
 use super::lanes::Lanes;
@@ -37,6 +37,21 @@ pub fn else_icmp(v: u64, n: u64, holds: bool) -> u64 {
         1 => !holds as u64,
         _ => v,
     }
+}
+
+#[inline]
+pub fn if_compares(v: u64, _: u64) -> bool {
+    v == 0
+}
+
+#[inline]
+pub fn while_compares(v: u64, n: u64) -> bool {
+    v < n
+}
+
+#[inline]
+pub fn else_compares(v: u64, _: u64) -> bool {
+    v == 1
 }
 
 /// Where the condition holds. A value is at most 32 bits wide, so one comparison of signed lanes serves both ways of reading.

@@ -3,9 +3,9 @@
 //! against it and compared with it, and the outside vectors are run through it.
 //!
 //! `find` and `decode` read an instruction, `operand` says what its operands are. `form` has the byte form, `fields` makes it of a
-//! decoded instruction, `encode` makes an encoding of it. `lanes` reads and writes the 32 threads of an operand, `sums`, `bits` and
-//! `masks` have the arithmetic, `step` does one instruction and `run` a whole run. `compare` compares two kernels. `hex` reads and writes
-//! kernels as text. `calls` has the calls of the C interface.
+//! decoded instruction, `encode` makes an encoding of it. `lanes` reads and writes the 32 threads of an operand, `marks` has what is
+//! discarded, `sums`, `bits` and `masks` have the arithmetic, `step` does one instruction and `run` a whole run. `compare` compares two
+//! kernels. `hex` reads and writes kernels as text. `calls` has the calls of the C interface.
 
 mod bits;
 pub mod calls;
@@ -17,6 +17,7 @@ pub mod find;
 pub mod form;
 pub mod hex;
 mod lanes;
+mod marks;
 mod masks;
 pub mod operand;
 mod run;

@@ -1,5 +1,7 @@
 //! Operands: what a joined number `v` and a flag field `t` name, and where they name nothing (refusal 4).
 
+use std::ops::Range;
+
 /// A register half is numbered 2r for the low half of register r and 2r + 1 for the high one; so is a uniform half.
 #[derive(Clone, Copy, Debug, PartialEq, Eq)]
 pub enum Source {
@@ -79,6 +81,21 @@ impl Destination {
             Destination::Pair(first) => first + 1,
         }
     }
+
+    /// The register halves that are written.
+    #[inline(always)]
+    pub fn halves(self) -> Range<usize> {
+        match self {
+            Destination::Half(half) => halves(half as usize, 1),
+            Destination::Register(register) => halves(2 * register as usize, 2),
+            Destination::Pair(first) => halves(2 * first as usize, 4),
+        }
+    }
+}
+
+#[inline(always)]
+fn halves(first: usize, count: usize) -> Range<usize> {
+    first..first + count
 }
 
 impl Src {
@@ -132,6 +149,17 @@ impl Source {
             Source::Register(register) => register,
             Source::Pair(first) => first + 1,
             Source::Immediate(_) | Source::UniformHalf(_) | Source::Uniform(_) | Source::UniformPair(_) => 0,
+        }
+    }
+
+    /// The register halves that are read; uniforms and immediates have none.
+    #[inline(always)]
+    pub fn halves(self) -> Range<usize> {
+        match self {
+            Source::Half(half) => halves(half as usize, 1),
+            Source::Register(register) => halves(2 * register as usize, 2),
+            Source::Pair(first) => halves(2 * first as usize, 4),
+            Source::Immediate(_) | Source::UniformHalf(_) | Source::Uniform(_) | Source::UniformPair(_) => 0..0,
         }
     }
 }

@@ -2,6 +2,7 @@
 
 use super::decode::{decode, Instruction};
 use super::lanes::State;
+use super::marks::set_in;
 use super::step::{Done, Machine, Scratch};
 use super::{Refusal, THREADS};
 
@@ -29,11 +30,13 @@ pub struct Answer {
     pub mask: u32,
 }
 
-/// Runs the kernel `code` from `start`. Register r of thread t is word 32 x r + t of `registers`; special registers likewise.
+/// Runs the kernel `code` from `start`. Register r of thread t is word 32 x r + t of `registers`; special registers likewise. The mark of
+/// half h of thread t is byte 32 x h + t of `marks`.
 #[allow(clippy::too_many_arguments)]
 pub fn run(
     code: &[u8],
     registers: &mut [u32],
+    marks: &mut [u8],
     uniforms: &[u32],
     specials: &[u32],
     start: usize,
@@ -41,22 +44,25 @@ pub fn run(
     budget: usize,
     records: &mut [u8],
 ) -> Answer {
-    let lent = [registers.len(), uniforms.len(), specials.len()];
+    let lent = [registers.len(), marks.len(), uniforms.len(), specials.len()];
     if !lengths_fit(lent) || !call_fits(code.len(), start, budget, records.len()) {
         return Answer { ending: Ending::Refused(1), steps: 0, address: start, mask };
     }
     let (registers, _) = registers.as_chunks_mut();
+    let (marks, _) = marks.as_chunks_mut();
     let (specials, _) = specials.as_chunks();
     let (records, _) = records.as_chunks_mut();
-    let mut machine = Machine { state: State { registers, uniforms, specials, mask }, scratch: Scratch::new() };
+    let state = State { registers, marks, uniforms, specials, mask, active: set_in(mask) };
+    let mut machine = Machine { state, scratch: Scratch::new() };
     let (ending, steps, address) = machine.run(code, start, &mut records[..budget]);
     Answer { ending, steps, address, mask: machine.state.mask }
 }
 
-/// Registers, uniforms and special registers have lengths that 01 allows.
-fn lengths_fit([registers, uniforms, specials]: [usize; 3]) -> bool {
+/// Registers, marks, uniforms and special registers have lengths that 01 and the change requests allow: two marks to a register's word.
+fn lengths_fit([registers, marks, uniforms, specials]: [usize; 4]) -> bool {
     registers.is_multiple_of(THREADS)
         && (1..=MOST_REGISTERS).contains(&(registers / THREADS))
+        && marks == 2 * registers
         && uniforms == UNIFORMS
         && specials.is_multiple_of(THREADS)
         && specials / THREADS <= MOST_SPECIALS

@@ -1,9 +1,10 @@
-//! One step: the registers that an instruction names are there, its sources are gathered, its results stored.
+//! One step: the registers that an instruction names are there, no half that it reads is marked, its sources are gathered, its results
+//! stored.
 
 use super::decode::{Bitfield, Compare, Kind, Term};
 use super::lanes::{Extend, Lanes, State};
 use super::operand::{Destination, Dst, Source, Src};
-use super::{bits, masks, sums, Refusal, THREADS};
+use super::{bits, marks, masks, sums, Refusal, THREADS};
 
 /// What a step did, besides what it left in the state.
 pub enum Done {
@@ -32,7 +33,7 @@ pub struct Machine<'a> {
 }
 
 impl Machine<'_> {
-    /// Does one instruction. Refused with 5 or 6, it changes nothing.
+    /// Does one instruction. Refused with 5, 6 or 10, it changes nothing.
     #[inline]
     pub fn step(&mut self, kind: &Kind) -> Result<Done, Refusal> {
         match kind {
@@ -62,9 +63,9 @@ impl Machine<'_> {
             &Kind::JmpExecAny { off } => Ok(Done::Jump((self.state.mask != 0).then_some(off))),
             &Kind::JmpExecNone { off } => Ok(Done::Jump((self.state.mask == 0).then_some(off))),
             &Kind::PopExec { n, .. } => self.pop_exec(n),
-            Kind::IfIcmp(i) => self.compare(i, masks::if_icmp),
-            Kind::WhileIcmp(i) => self.compare(i, masks::while_icmp),
-            Kind::ElseIcmp(i) => self.compare(i, masks::else_icmp),
+            Kind::IfIcmp(i) => self.compare(i, masks::if_compares, masks::if_icmp),
+            Kind::WhileIcmp(i) => self.compare(i, masks::while_compares, masks::while_icmp),
+            Kind::ElseIcmp(i) => self.compare(i, masks::else_compares, masks::else_icmp),
         }
     }
 
@@ -78,8 +79,7 @@ impl Machine<'_> {
         for (result, word) in self.scratch.results.iter_mut().zip(words) {
             *result = *word as u64;
         }
-        self.state.write(d.to, self.state.mask, &self.scratch.results);
-        Ok(Done::Data)
+        Ok(self.store(d))
     }
 
     #[inline]
@@ -99,7 +99,8 @@ impl Machine<'_> {
         self.data(i.d, sources, |[a, b, c], results| lanewise3(a, b, c, results, |a, b, c| f(mask, a, b, c)))
     }
 
-    /// A data instruction: all sources are read, then `f` makes the results, then the active threads are written.
+    /// A data instruction: all sources are read, then `f` makes the results, then the sources with discard are marked and the active
+    /// threads written.
     #[inline]
     fn data<const N: usize>(
         &mut self,
@@ -109,37 +110,65 @@ impl Machine<'_> {
     ) -> Result<Done, Refusal> {
         let last = sources.iter().fold(d.to.last_register(), |last, (src, _)| last.max(src.from.last_register()));
         self.has(last)?;
+        if marks::any_of(&self.state.marks_of(sources.map(|(src, _)| src)), &self.state.active) {
+            return Err(10);
+        }
         self.gather(sources);
         f(&self.scratch.sources, &mut self.scratch.results);
+        sources.iter().for_each(|(src, _)| self.state.discard(*src));
+        Ok(self.store(d))
+    }
+
+    /// Stores the results in the active threads of a destination.
+    #[inline]
+    fn store(&mut self, d: Dst) -> Done {
         self.state.write(d.to, self.state.mask, &self.scratch.results);
-        Ok(Done::Data)
+        self.state.clear(d.to);
+        Done::Data
     }
 
     fn pop_exec(&mut self, n: u8) -> Result<Done, Refusal> {
+        if marks::any(&self.state.marks[0]) {
+            return Err(10);
+        }
         self.state.read(Source::Half(0), Extend::Zero, &mut self.scratch.sources[0]);
         lanewise1(&self.scratch.sources[0], &mut self.scratch.results, |v| masks::pop_exec(v, n as u64));
         Ok(self.set_mask())
     }
 
-    /// A comparison of `a` and `b` in every thread, active or not, and then `f` on its r0l.
+    /// A comparison of `a` and `b` in every thread, active or not, and then `f` on its r0l. What is compared counts only in the threads
+    /// where `compares` holds of r0l, so the marks are looked at in these.
     #[inline]
-    fn compare(&mut self, i: &Compare, f: impl Fn(u64, u64, bool) -> u64) -> Result<Done, Refusal> {
+    fn compare(
+        &mut self,
+        i: &Compare,
+        compares: impl Fn(u64, u64) -> bool,
+        f: impl Fn(u64, u64, bool) -> u64,
+    ) -> Result<Done, Refusal> {
         self.has(i.a.from.last_register().max(i.b.from.last_register()))?;
+        self.state.read(Source::Half(0), Extend::Zero, &mut self.scratch.sources[2]);
+        let marks = self.state.marks_of([i.a, i.b]);
+        let comparing = || self.scratch.sources[2].map(|r0l| if compares(r0l, i.n as u64) { 0xFF } else { 0 });
+        if marks::any(&self.state.marks[0]) || marks::any(&marks) && marks::any_of(&marks, &comparing()) {
+            return Err(10);
+        }
         let extend = i.condition.signed.into();
         self.gather([(i.a, extend), (i.b, extend)]);
-        self.state.read(Source::Half(0), Extend::Zero, &mut self.scratch.sources[2]);
         let [a, b, r0l] = &self.scratch.sources;
         let holds = masks::compare(i.condition, a, b);
         for t in 0..THREADS {
             self.scratch.results[t] = f(r0l[t], i.n as u64, holds[t]);
         }
+        [i.a, i.b].into_iter().for_each(|src| self.state.discard(src));
         Ok(self.set_mask())
     }
 
     /// Stores the results in r0l of every thread and makes exactly the threads active that have 0 there.
     fn set_mask(&mut self) -> Done {
         self.state.write(Destination::Half(0), u32::MAX, &self.scratch.results);
+        self.state.clear_r0l();
         self.state.mask = masks::where_zero(&self.scratch.results);
+        self.state.active = marks::set_in(self.state.mask);
         Done::Mask
     }
 

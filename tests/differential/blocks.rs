@@ -54,8 +54,8 @@ impl Blocks {
         self.enter(at);
         let mut end = at;
         for _ in 0..1 + random.below(6) {
-            let bytes = data(random, self.limits);
-            end = self.put(end, &bytes);
+            let form = data(random, self.limits);
+            end = self.put(end, &good(random, form, self.limits));
         }
         self.leave(random, end);
     }
@@ -146,12 +146,12 @@ pub fn shuffled(random: &mut Random, end: usize) -> Vec<usize> {
     all
 }
 
-/// A data instruction within the limits.
-pub fn data(random: &mut Random, limits: Limits) -> Vec<u8> {
+/// The form of a data instruction within the limits.
+pub fn data(random: &mut Random, limits: Limits) -> &'static Form {
     loop {
         let form = &FORMS[random.below(FORMS.len())];
         if is_data(form) && (form.name != Name::GetSr || limits.specials > 0) {
-            return good(random, form, limits);
+            return form;
         }
     }
 }

@@ -6,11 +6,13 @@ use crate::plain::find::{Form, Name, FORMS};
 use crate::plain::form::{has_destination, sources, Fields, Operand};
 use crate::random::Random;
 
-/// What an instruction may name: registers and special registers below these.
+/// What an instruction may name: registers and special registers below these. One register source in so many discards, none where this
+/// is 0.
 #[derive(Clone, Copy)]
 pub struct Limits {
     pub registers: usize,
     pub specials: usize,
+    pub discards: usize,
 }
 
 /// The heading words, in the order of the kinds of the byte form.
@@ -39,7 +41,7 @@ pub const WORDS: [&str; 22] = [
     "else_icmp",
 ];
 
-pub const ANY: Limits = Limits { registers: 128, specials: 256 };
+pub const ANY: Limits = Limits { registers: 128, specials: 256, discards: 3 };
 
 /// The form of a diagram, each as often.
 pub fn any_form(random: &mut Random) -> &'static Form {
@@ -116,7 +118,11 @@ fn source(random: &mut Random, limits: Limits, wide: bool) -> Operand {
         _ => random.pick(&[5, 7]),
     };
     let number = match kind {
-        1..=3 => return Operand { hint: random.below(3) as u8, ..register(random, kind, limits.registers) },
+        1..=3 => {
+            let discards = limits.discards > 0 && random.once_in(limits.discards);
+            let hint = if discards { 2 } else { random.bit() };
+            return Operand { hint, ..register(random, kind, limits.registers) };
+        }
         4 => random.below(512),
         6 => random.below(255),
         _ => random.below(256),
@@ -136,7 +142,12 @@ fn register(random: &mut Random, kind: u8, registers: usize) -> Operand {
 
 /// The bytes of an instruction that decodes.
 pub fn good(random: &mut Random, form: &Form, limits: Limits) -> Vec<u8> {
-    let (word, length) = encode(&fields(random, form, limits).to_bytes()).expect("fields that have an encoding");
+    encoded(&fields(random, form, limits))
+}
+
+/// The bytes of fields that have an encoding.
+pub fn encoded(fields: &Fields) -> Vec<u8> {
+    let (word, length) = encode(&fields.to_bytes()).expect("fields that have an encoding");
     word.to_le_bytes()[..length].to_vec()
 }
 

@@ -1,6 +1,8 @@
 //! Random runs: kernels of one to hundreds of instructions with branches and loops, and what is lent to them.
 
+use crate::halves::Row;
 use crate::instructions::{any_bytes, any_form, good, Limits, ANY};
+use crate::marks::marks_of;
 use crate::plain::find::{Form, Name, FORMS};
 use crate::random::Random;
 
@@ -10,6 +12,7 @@ pub const MOST_CODE: usize = 8192;
 pub struct Run {
     pub code: Vec<u8>,
     pub registers: Vec<u8>,
+    pub marks: Vec<u8>,
     pub uniforms: Vec<u8>,
     pub specials: Vec<u8>,
     pub start: usize,
@@ -19,12 +22,12 @@ pub struct Run {
     pub answer: Vec<u8>,
 }
 
-/// The code of a kernel, the addresses of its instructions, and which of them are jumps.
-#[derive(Default)]
+/// The code of a kernel, the addresses of its instructions, which of them are jumps, and what they have discarded.
 struct Kernel {
     code: Vec<u8>,
     starts: Vec<usize>,
     jumps: Vec<usize>,
+    row: Row,
 }
 
 /// A run whose sizes are as 01 has them.
@@ -35,7 +38,8 @@ pub fn run(random: &mut Random) -> Run {
         _ => 1 + random.below(128),
     };
     let specials = if random.bit() == 1 { random.pick(&[0, 1, 5, 6, 69, 70, 255, 256]) } else { random.below(257) };
-    let kernel = kernel(random, Limits { registers, specials });
+    let discards = random.pick(&[0, 0, 0, 2, 4, 20]);
+    let kernel = kernel(random, Limits { registers, specials, discards });
     let budget = match random.below(4) {
         0 => random.pick(&[1, 2, 4095, 4096]),
         1 => 1 + random.below(4096),
@@ -43,12 +47,14 @@ pub fn run(random: &mut Random) -> Run {
     };
     let spare = if random.bit() == 1 { 0 } else { random.below(49) };
     let answer = if random.bit() == 1 { 24 } else { 24 + random.below(9) };
+    let mask = mask(random);
     Run {
         start: start(random, &kernel),
         registers: registers_of(random, registers),
+        marks: marks_of(random, registers, mask),
         uniforms: words(random, 256),
         specials: words(random, 32 * specials),
-        mask: mask(random),
+        mask,
         budget,
         records: random.bytes(16 * budget + spare),
         answer: random.bytes(answer),
@@ -57,7 +63,7 @@ pub fn run(random: &mut Random) -> Run {
 }
 
 fn kernel(random: &mut Random, limits: Limits) -> Kernel {
-    let mut kernel = Kernel::default();
+    let mut kernel = Kernel { code: Vec::new(), starts: Vec::new(), jumps: Vec::new(), row: Row::new() };
     if random.once_in(40) {
         kernel.fill(random, limits);
     } else {
@@ -101,7 +107,7 @@ impl Kernel {
             self.jumps.push(self.starts.len());
         }
         self.starts.push(self.code.len());
-        self.code.extend(good(random, form, limits));
+        self.code.extend(self.row.next(random, form, limits));
     }
 
     /// Exactly as much code as is allowed.

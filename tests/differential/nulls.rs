@@ -15,20 +15,30 @@ fn mov16() -> [u8; 48] {
     form
 }
 
-/// The number of a run that is lent registers and uniforms, and NULL for code and special registers.
-fn run() -> i32 {
-    let (mut registers, uniforms) = ([0u8; 128], [0u8; 1024]);
-    let (mut records, mut answer) = ([0u8; 16], [0u8; ANSWER_BYTES]);
-    let (registers, uniforms) = (registers.as_mut_ptr(), uniforms.as_ptr());
-    let (records, answer) = (records.as_mut_ptr(), answer.as_mut_ptr());
-    unsafe {
-        reedtassel_run(null(), 0, registers, 128, uniforms, 1024, null(), 0, 0, 1, 1, records, 16, answer, ANSWER_BYTES)
+/// The number of a run that is lent registers and uniforms, marks as given, and NULL for code and special registers; whether it left
+/// what it was lent.
+fn run(marks: *mut u8, marks_len: usize) -> (i32, bool) {
+    let (mut registers, uniforms) = ([3u8; 128], [0u8; 1024]);
+    let (mut records, mut answer) = ([4u8; 16], [5u8; ANSWER_BYTES]);
+    let (lent, words) = (registers.as_mut_ptr(), uniforms.as_ptr());
+    let (room, left, none, bytes) = (records.as_mut_ptr(), answer.as_mut_ptr(), null(), ANSWER_BYTES);
+    let given = unsafe {
+        reedtassel_run(none, 0, lent, 128, marks, marks_len, words, 1024, none, 0, 0, 1, 1, room, 16, left, bytes)
+    };
+    (given, registers == [3; 128] && records == [4; 16] && answer == [5; ANSWER_BYTES])
+}
+
+/// The number of a run that is lent no marks; 1 where it wrote something.
+fn run_without_marks() -> i32 {
+    match run(null_mut(), 0) {
+        (given, true) => given,
+        (_, false) => 1,
     }
 }
 
 fn run_of_nothing() -> i32 {
     let (bytes, room) = (null(), null_mut());
-    unsafe { reedtassel_run(bytes, 0, room, 0, bytes, 0, bytes, 0, 0, 1, 1, room, 0, room, 0) }
+    unsafe { reedtassel_run(bytes, 0, room, 0, room, 0, bytes, 0, bytes, 0, 0, 1, 1, room, 0, room, 0) }
 }
 
 /// Calls for Intel HEX, and what each must answer.
@@ -56,7 +66,7 @@ fn hex() -> [(&'static str, i32, i32); 9] {
 
 pub fn compare(report: &mut Report) {
     let (code, form) = (MOV16.as_ptr(), mov16());
-    let mut room = [0u8; 48];
+    let (mut room, mut marks) = ([0u8; 48], [0u8; 64]);
     let (of_form, to) = (form.as_ptr(), room.as_mut_ptr());
     // NULL comes with length 0 alone
     let answers = unsafe {
@@ -69,7 +79,8 @@ pub fn compare(report: &mut Report) {
             ("encode, no form", reedtassel_encode(null(), 0, to, 48), -8),
             ("encode, no form and no buffer", reedtassel_encode(null(), 0, null_mut(), 0), -8),
             ("encode, no buffer", reedtassel_encode(of_form, 48, null_mut(), 0), -9),
-            ("run, no code and no special registers", run(), 0),
+            ("run, no code and no special registers", run(marks.as_mut_ptr(), 64).0, 0),
+            ("run, no marks", run_without_marks(), -1),
             ("run, nothing at all", run_of_nothing(), -1),
         ]
     };

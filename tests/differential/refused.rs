@@ -9,7 +9,7 @@ use crate::plain::{self, Ending};
 use crate::random::Random;
 
 /// Blocks in a ring that is left after a few turns, to an instruction which is refused with `number`. The register behind those of
-/// the limits counts the turns: it must be lent too, and be 0 at first.
+/// the limits counts the turns: it must be lent too, and be 0 at first. So must the next, with its halves marked.
 pub fn then_refused(random: &mut Random, number: u8, limits: Limits) -> Blocks {
     let mut blocks = Blocks::new(random, limits);
     blocks.turning = Turning::Never;
@@ -39,9 +39,9 @@ fn below_the_last(random: &mut Random) -> usize {
     LAYER * random.below(LAYERS - 1)
 }
 
-/// The limits, and the register that counts.
+/// The limits, the register that counts and the one that is marked.
 fn lent(limits: Limits) -> Limits {
-    Limits { registers: limits.registers + 1, ..limits }
+    Limits { registers: limits.registers + 2, ..limits }
 }
 
 /// A block, and in another layer at its place an instruction that is refused: its address and its bytes.
@@ -80,19 +80,21 @@ fn count_turns(random: &mut Random, blocks: &mut Blocks, at: usize, astray: Opti
     blocks.leave(random, end);
 }
 
-/// The number with which a run refuses these bytes at its start, no thread being active.
+/// The number with which a run refuses these bytes at its start, no thread being active and the last register marked.
 pub fn refusal(bytes: &[u8], limits: Limits) -> Option<u8> {
     let mut registers = vec![0; 32 * limits.registers];
     let specials = vec![0; 32 * limits.specials];
-    let answer = plain::run(bytes, &mut registers, &[0; 256], &specials, 0, 0, 1, &mut [0; 16]);
+    let mut marks = vec![0; 64 * limits.registers];
+    marks[64 * (limits.registers - 1)..].fill(1);
+    let answer = plain::run(bytes, &mut registers, &mut marks, &[0; 256], &specials, 0, 0, 1, &mut [0; 16]);
     match answer.ending {
         Ending::Refused(number) => Some(number),
         _ => None,
     }
 }
 
-/// Bytes of an instruction that is refused with a number from 2 to 7: with 2 they are cut short, with 7 they jump where no thread is
-/// active.
+/// Bytes of an instruction that is refused with a number from 2 to 7, or 10: with 2 they are cut short, with 7 they jump where no thread
+/// is active, with 10 they compare the last register where r0l is 1 or 0.
 fn refused(random: &mut Random, number: u8, limits: Limits) -> Vec<u8> {
     loop {
         let form = any_form(random);
@@ -102,7 +104,8 @@ fn refused(random: &mut Random, number: u8, limits: Limits) -> Vec<u8> {
             4 => shaped(random, form),
             5 => good(random, form, ANY),
             6 => special(random, limits),
-            _ => astray(random),
+            7 => astray(random),
+            _ => comparing(random, limits),
         };
         if refusal(&bytes, limits) == Some(number) {
             return bytes;
@@ -113,6 +116,16 @@ fn refused(random: &mut Random, number: u8, limits: Limits) -> Vec<u8> {
 fn special(random: &mut Random, limits: Limits) -> Vec<u8> {
     let form = FORMS.iter().find(|form| form.name == Name::GetSr).expect("get_sr");
     good(random, form, Limits { specials: 256, ..limits })
+}
+
+/// A comparison of the last register, in the threads whose r0l is 1 at most.
+fn comparing(random: &mut Random, limits: Limits) -> Vec<u8> {
+    let last = limits.registers as u64 - 1;
+    let marked = random.pick(&[Op::Lo(last), Op::Hi(last), Op::Reg(last), Op::DiscardReg(last)]);
+    let (a, b) = if random.bit() == 1 { (marked, Op::Imm(1)) } else { (Op::Reg(1), marked) };
+    let mut code = Code::default();
+    code.icmp(Icmp::While, 2 + random.below(2) as u64, a, Cc::Less, b);
+    code.0
 }
 
 /// A jump to an odd address, or to one that no code has.

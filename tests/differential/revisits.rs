@@ -42,7 +42,7 @@ struct Revisits {
     far: [u64; LAYERS],
     turned: [u64; 2],
     /// By refusal, those where the slot had another address far or near, or this one.
-    refused: [[u64; 3]; 8],
+    refused: [[u64; 3]; 11],
     pairs: [[u64; KINDS_END]; KINDS_END],
     /// Starts that are not 0, and those at the code's end.
     starts: [u64; 2],
@@ -69,7 +69,7 @@ impl Revisits {
             near: 0,
             far: [0; LAYERS],
             turned: [0; 2],
-            refused: [[0; 3]; 8],
+            refused: [[0; 3]; 11],
             pairs: [[0; KINDS_END]; KINDS_END],
             starts: [0; 2],
             budget_one: 0,
@@ -119,8 +119,9 @@ impl Revisits {
         report.happened("steps back at an address two bytes from the one that had their slot", self.near);
         report.happened("jumps taken that were not before", self.turned[0]);
         report.happened("jumps not taken that were before", self.turned[1]);
-        for (refusal, [far, near, _]) in self.refused.iter().enumerate().skip(2) {
-            let times = [("far", *far), ("near", *near)];
+        for refusal in (2..8).chain([10]) {
+            let [far, near, _] = self.refused[refusal];
+            let times = [("far", far), ("near", near)];
             // an instruction that is cut short stands at the code's end, and one before it in the same four bytes ends the run
             let places = if refusal == 2 { &times[..1] } else { &times };
             report.reached(&format!("refused {refusal} where a slot had another instruction"), places);

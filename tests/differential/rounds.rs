@@ -1,8 +1,10 @@
 //! The kernels that come back to addresses, and what is lent to them.
 
 use crate::blocks::{data, layers, places, shuffled, Blocks, Turning, COLUMNS, LAYER};
-use crate::instructions::{good, Limits};
+use crate::halves::Row;
+use crate::instructions::Limits;
 use crate::kernels::{few, mask, registers_of, words, Run, MOST_CODE};
+use crate::marks::marks_of;
 use crate::plain::find::{Form, Name, FORMS};
 use crate::random::Random;
 use crate::refused;
@@ -10,13 +12,17 @@ use crate::refused;
 /// What is lent with a kernel.
 fn lent(random: &mut Random, limits: Limits, code: Vec<u8>, start: usize, budget: usize) -> Run {
     let spare = if random.bit() == 1 { 0 } else { random.below(49) };
+    let mask = mask(random);
+    let clear = vec![0; 64 * limits.registers];
+    let marks = if random.once_in(6) { marks_of(random, limits.registers, mask) } else { clear };
     Run {
         code,
         registers: registers_of(random, limits.registers),
+        marks,
         uniforms: words(random, 256),
         specials: words(random, 32 * limits.specials),
         start,
-        mask: mask(random),
+        mask,
         budget,
         records: random.bytes(16 * budget + spare),
         answer: random.bytes(24),
@@ -25,29 +31,33 @@ fn lent(random: &mut Random, limits: Limits, code: Vec<u8>, start: usize, budget
 
 fn limits(random: &mut Random) -> Limits {
     let registers = if random.bit() == 1 { 3 + random.below(12) } else { 3 + random.below(126) };
-    Limits { registers, specials: random.pick(&[0, 1, 8, 70, 256]) }
+    Limits { registers, specials: random.pick(&[0, 1, 8, 70, 256]), discards: discards(random) }
+}
+
+/// Mostly none: what a loop discards and does not write ends it at the next turn.
+fn discards(random: &mut Random) -> usize {
+    random.pick(&[0, 0, 0, 3, 30])
 }
 
 /// Instructions that go on with the next, data and mask.
 fn body(random: &mut Random, limits: Limits, length: usize) -> Vec<u8> {
-    let mut code = Vec::new();
+    let (mut code, mut row) = (Vec::new(), Row::new());
     while code.len() < length {
         let rest = length - code.len();
-        let bytes = if random.once_in(30) { masking(random, limits) } else { data(random, limits) };
+        let form = if random.once_in(30) { masking(random) } else { data(random, limits) };
         // no instruction has two bytes, so two may not be what is left
-        if bytes.len() <= rest && rest - bytes.len() != 2 {
-            code.extend(bytes);
+        if form.length <= rest && rest - form.length != 2 {
+            code.extend(row.next(random, form, limits));
         }
     }
     code
 }
 
-fn masking(random: &mut Random, limits: Limits) -> Vec<u8> {
+fn masking(random: &mut Random) -> &'static Form {
     use Name::{ElseIcmp, IfIcmp, PopExec, WhileIcmp};
     let masks = |form: &&Form| matches!(form.name, PopExec | IfIcmp | WhileIcmp | ElseIcmp);
     let forms: Vec<&Form> = FORMS.iter().filter(masks).collect();
-    let form = random.pick(&forms);
-    good(random, form, limits)
+    random.pick(&forms)
 }
 
 /// Code from just over 1,024 bytes to all that is allowed.
@@ -99,7 +109,7 @@ fn ring(random: &mut Random, mut blocks: Blocks) -> Run {
 /// Blocks that are entered at two addresses of the same four bytes, and share slots with others too.
 pub fn overlapping(random: &mut Random) -> Run {
     // a jump back sets high bits where the mov around it has its register's number
-    let limits = Limits { registers: 128, specials: random.pick(&[1, 8, 256]) };
+    let limits = Limits { registers: 128, specials: random.pick(&[1, 8, 256]), discards: discards(random) };
     let mut blocks = Blocks::new(random, limits);
     let (layers, places) = (layers(random), places(random));
     for place in &places[..1 + random.below(3)] {
@@ -116,16 +126,19 @@ pub fn overlapping(random: &mut Random) -> Run {
     ring(random, blocks)
 }
 
-/// Blocks in a ring that is left after a few turns, to an instruction that is refused.
+/// Blocks in a ring that is left after a few turns, to an instruction that is refused. Behind the registers of the limits there is the
+/// one that counts the turns, and one whose halves are marked.
 pub fn then_refused(random: &mut Random) -> Run {
-    let limits = Limits { registers: 3 + random.below(124), specials: random.below(200) };
-    let number = 2 + random.below(6) as u8;
+    let limits = Limits { registers: 3 + random.below(123), specials: random.below(200), discards: 0 };
+    let number = random.pick(&[2, 3, 4, 5, 6, 7, 10]);
     let blocks = refused::then_refused(random, number, limits);
     let start = random.pick(&blocks.entries);
-    let with_counter = Limits { registers: limits.registers + 1, ..limits };
-    let mut run = lent(random, with_counter, blocks.code, start, 512);
+    let with_both = Limits { registers: limits.registers + 2, ..limits };
+    let mut run = lent(random, with_both, blocks.code, start, 512);
     run.mask |= 1 << random.below(32);
     run.registers[128 * limits.registers..].fill(0);
+    run.marks.fill(0);
+    run.marks[64 * (limits.registers + 1)..].fill_with(|| random.pick(&[1, 2, 255]));
     run
 }
 
@@ -152,11 +165,12 @@ pub fn turning(random: &mut Random) -> Run {
 
 /// Every instruction four times, in any order. A jump goes to the next, taken or not.
 pub fn orders(random: &mut Random) -> Run {
-    let limits = Limits { registers: 3 + random.below(126), specials: 1 + random.below(256) };
-    let mut code = Vec::new();
+    let limits =
+        Limits { registers: 3 + random.below(126), specials: 1 + random.below(256), discards: discards(random) };
+    let (mut code, mut row) = (Vec::new(), Row::new());
     for k in shuffled(random, 4 * FORMS.len()) {
         let form = &FORMS[k % FORMS.len()];
-        let mut bytes = good(random, form, limits);
+        let mut bytes = row.next(random, form, limits);
         if matches!(form.name, Name::JmpExecAny | Name::JmpExecNone) {
             bytes[2..].copy_from_slice(&6i32.to_le_bytes());
         }

@@ -1,5 +1,5 @@
-"""Instruction bytes from operands and fields, by the diagrams in g13.py. Unknown bits and hints are chosen at random: they must
-have no effect."""
+"""Instruction bytes from operands and fields, by the diagrams in g13.py. Unknown bits, and hints that are not given, are chosen at
+random: they must have no effect on any value."""
 import random
 
 import g13

@@ -9,6 +9,7 @@ import random
 
 import g13
 from assemble import assemble, hi, imm, lo, pair, reg, uhi, ulo, uni, upair
+from hints import lasting
 from vector import ALL, Vector
 
 AMOUNTS = [0, 1, 15, 16, 31, 32, 33, 63, 64, 95, 96, 127, 128]
@@ -64,7 +65,7 @@ def kernel(name, instructions, **options):
     registers = options.pop("registers", 64)
     options.setdefault("fill", (rand32() | 1, rand32() | 1, rand32() | 1))
     options.setdefault("regs", usual(instructions))
-    return Vector(name, b"".join(instructions), 32 * registers, budget=len(instructions), **options)
+    return lasting(Vector(name, b"".join(instructions), 32 * registers, budget=len(instructions), **options))
 
 
 def batched(items, size):

@@ -1,20 +1,21 @@
 """The built instructions of document 002 and the run of 01, transcribed into Python, whose integers are unbounded.
 
-It is written from the two papers, and from docs/DECISIONS.md, entry 1, for the section on operands that the copy of document 002 lacks; it
-shares no code with the other programs of this repository. A diagram below is the row
-that document 002 prints, most significant bit first: `Dx{2}` is a field of two bits, `?` an unknown bit. The lines that describe
-operands are the document's own, and so is the pseudocode, with its indentation restored. It is slow and meant to be laid beside
-the page.
+It is written from the two papers, from the change request on discards for the marks, and from docs/DECISIONS.md, entry 1, for the
+section on operands that the copy of document 002 lacks; it shares no code with the other programs of this repository. A diagram
+below is the row that document 002 prints, most significant bit first: `Dx{2}` is a field of two bits, `?` an unknown bit. The lines
+that describe operands are the document's own, and so is the pseudocode, with its indentation restored. Which threads read a source
+is what the pseudocode says. It is slow and meant to be laid beside the page.
 """
 import re
 from dataclasses import dataclass, field
 
 THREADS = range(32)
 ALL = 0xFFFFFFFF
+DISCARD = 0b11  # the hint of a register source
 
 
 class Refused(Exception):
-    """A refusal; its argument is 01's number."""
+    """A refusal; its argument is its number."""
 
 
 # ---- values
@@ -29,7 +30,8 @@ def saturate_integer(x, bits, signed):
     return min(max(x, low), high)
 
 
-# ---- operands: what they name is said first (refusal 4); whether it is there (5, 6) and what is read, when a step is done
+# ---- operands: what they name is said first (refusal 4); whether it is there (5, 6), what is read and whether it is marked (10),
+# when a step is done
 
 
 @dataclass
@@ -71,10 +73,18 @@ class Source:
     number: int
     thread_bit_size: int
     signed: bool = False
+    discard: bool = False
 
     def missing(self, machine):
         last = (self.number + self.thread_bit_size // 16 - 1) // 2
         return [5] if self.kind == "register" and last >= machine.n else []
+
+    def halves(self):
+        """The register halves that it names."""
+        return range(self.number, self.number + self.thread_bit_size // 16) if self.kind == "register" else range(0)
+
+    def marked(self, machine, thread):
+        return any(machine.marks[32 * half + thread] != 0 for half in self.halves())
 
     def value(self, machine, thread):
         halves = range(self.thread_bit_size // 16)
@@ -87,17 +97,21 @@ class Source:
         return sign_extend(value, self.thread_bit_size) if self.signed else value
 
     def bind(self, machine):
-        return Read([self.value(machine, thread) for thread in THREADS], self.thread_bit_size)
+        values = [self.value(machine, thread) for thread in THREADS]
+        return Read(values, [self.marked(machine, thread) for thread in THREADS], self.thread_bit_size)
 
 
 @dataclass
 class Read:
-    """A source during a step: all its values, read before any thread is written."""
+    """A source during a step: all its values, and where it is marked, from before the step changes anything."""
 
     values: list
+    marked: list
     thread_bit_size: int
 
     def __getitem__(self, thread):
+        if self.marked[thread]:
+            raise Refused(10)
         return self.values[thread]
 
 
@@ -149,7 +163,7 @@ def ALUDst64(v, t):
 def ALUSrc(v, t, widest=32):
     t3t2, t1, t0, hint = t >> 2, t >> 1 & 1, t & 1, t & 3
     if t3t2 == 0b00:
-        return Source("immediate", v, 16) if hint == 0 else Source("register", v, 16)
+        return Source("immediate", v, 16) if hint == 0 else Source("register", v, 16, discard=hint == DISCARD)
     if t3t2 == 0b01:
         u = v + 256 * t0
         if t1 == 0:
@@ -162,9 +176,9 @@ def ALUSrc(v, t, widest=32):
     if hint == 0 or v % 2 == 1:
         raise Refused(4)
     if t3t2 == 0b10:
-        return Source("register", v, 32)
+        return Source("register", v, 32, discard=hint == DISCARD)
     if widest == 64:
-        return Source("register", v, 64)
+        return Source("register", v, 64, discard=hint == DISCARD)
     raise Refused(4)
 
 
@@ -730,8 +744,8 @@ class Step:
 
 
 class Machine:
-    def __init__(self, registers, uniforms, specials, mask):
-        self.registers, self.uniforms, self.specials, self.mask = registers, uniforms, specials, mask
+    def __init__(self, registers, marks, uniforms, specials, mask):
+        self.registers, self.marks, self.uniforms, self.specials, self.mask = registers, marks, uniforms, specials, mask
         self.n, self.k = len(registers) // 32, len(specials) // 32
 
     def active(self):
@@ -741,11 +755,31 @@ class Machine:
         return self.registers[32 * (number // 2) + thread] >> 16 * (number % 2) & 0xFFFF
 
     def put_half(self, number, thread, value):
+        """Writes a half of a thread; that clears its mark."""
         at, shift = 32 * (number // 2) + thread, 16 * (number % 2)
         self.registers[at] = self.registers[at] & ~(0xFFFF << shift) | value << shift
+        self.marks[32 * number + thread] = 0
+
+    def discard(self, source):
+        """Marks the halves of a source in all threads, active or not."""
+        for half in source.halves():
+            self.marks[32 * half : 32 * half + 32] = b"\x01" * 32
 
     def uniform_half(self, number):
         return self.uniforms[number // 2] >> 16 * (number % 2) & 0xFFFF
+
+    def do(self, decoded):
+        """All sources are read, those with discard marked, then the pseudocode writes. Refused, it leaves all as it was."""
+        before = list(self.registers), bytes(self.marks), self.mask
+        step = Step(decoded, self)
+        for value in decoded.values.values():
+            if isinstance(value, Source) and value.discard:
+                self.discard(value)
+        try:
+            return decoded.instruction.meaning(step)
+        except Refused:
+            self.registers[:], self.marks[:], self.mask = before
+            raise
 
     def step(self, code, address):
         """Does the instruction at an address; answers the next address, the length and the record's class."""
@@ -753,7 +787,7 @@ class Machine:
         missing = [n for value in decoded.values.values() if hasattr(value, "missing") for n in value.missing(self)]
         if missing:
             raise Refused(min(missing))
-        offset = decoded.instruction.meaning(Step(decoded, self))
+        offset = self.do(decoded)
         following = address + decoded.length
         if decoded.instruction.kind != "jump":
             return following, decoded.length, {"data": 1, "mask": 2}[decoded.instruction.kind]
@@ -765,11 +799,12 @@ class Machine:
         return target, decoded.length, 4
 
 
-def sizes_break(code, registers, uniforms, specials, start, budget, records):
+def sizes_break(code, registers, marks, uniforms, specials, start, budget, records):
     return (
         len(code) > 8192
         or len(registers) % 32 != 0
         or not 1 <= len(registers) // 32 <= 128
+        or len(marks) != 64 * (len(registers) // 32)
         or len(uniforms) != 256
         or len(specials) % 32 != 0
         or len(specials) // 32 > 256
@@ -780,11 +815,11 @@ def sizes_break(code, registers, uniforms, specials, start, budget, records):
     )
 
 
-def run(code, registers, uniforms, specials, start, mask, budget, records):
-    """Changes `registers` and `records`; answers (ending, steps, address, mask), where ending is finished, spent or refused n."""
-    if sizes_break(code, registers, uniforms, specials, start, budget, records):
+def run(code, registers, marks, uniforms, specials, start, mask, budget, records):
+    """Changes `registers`, `marks` and `records`; answers (ending, steps, address, mask); ending is finished, spent or refused n."""
+    if sizes_break(code, registers, marks, uniforms, specials, start, budget, records):
         return "refused 1", 0, start, mask
-    machine, address, steps = Machine(registers, uniforms, specials, mask), start, 0
+    machine, address, steps = Machine(registers, marks, uniforms, specials, mask), start, 0
     while True:
         if address == len(code):
             return "finished", steps, address, machine.mask

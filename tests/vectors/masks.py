@@ -5,6 +5,7 @@ import random
 
 from assemble import assemble, hi, imm, lo, reg, uhi, ulo, uni
 from data import rand32
+from hints import lasting
 from vector import ALL, Vector
 
 MASKS = [ALL, 0, 0x5A5A3C96, 0x00010000]
@@ -96,7 +97,7 @@ def jump(word, offset):
 
 def branches(name, code, rows, budget, **options):
     regs = {32 * r: row for r, row in enumerate(rows)}
-    return Vector(name, b"".join(code), registers=32 * 8, regs=regs, budget=budget, **options)
+    return lasting(Vector(name, b"".join(code), registers=32 * 8, regs=regs, budget=budget, **options))
 
 
 def nested_ifs():

@@ -6,13 +6,14 @@ from data import EDGES, amounts, edges, rand32
 from vector import ALL, Vector
 
 MOVS = {"mov16": lo, "mov32": reg}
+HINTS = [1, 2] * 7 + [3]  # few discards, so that not many runs end with a read of what was discarded
 
 
 def source(wide):
     """A source that has a meaning; its registers are there where N is 8 or more."""
-    number, r = random.randint(0, 254), random.randint(0, 6)
-    kinds = [imm(number), lo(r), hi(r), reg(r), reg(r), ulo(number), uhi(number), uni(number)]
-    return random.choice(kinds + ([pair(r), pair(r), upair(number)] if wide else []))
+    number, r, hint = random.randint(0, 254), random.randint(0, 6), random.choice(HINTS)
+    kinds = [imm(number), lo(r, hint), hi(r, hint), reg(r, hint), reg(r, hint), ulo(number), uhi(number), uni(number)]
+    return random.choice(kinds + ([pair(r, hint), pair(r, hint), upair(number)] if wide else []))
 
 
 def destination(wide):
@@ -60,6 +61,15 @@ def code():
     return bytes(made)
 
 
+def marks(n):
+    """Marks of some threads in a few halves of the first registers, for some kernels."""
+    if random.random() < 0.6:
+        return {}
+    some = random.sample(range(2 * min(n, 9)), random.randint(1, 4))
+    dense = random.choice([0.03, 0.3, 1])
+    return {32 * half: bytes(random.choice([1, 2, 255]) * (random.random() < dense) for _ in range(32)) for half in some}
+
+
 def kernel(name):
     n, k, budget = random.choice([7, 8, 16, 33, 128]), random.choice([1, 8, 9, 256]), random.choice([1, 3, 20, 60])
     regs = {32: edges(), 64: edges(), 96: amounts(), 128: edges()}
@@ -68,4 +78,5 @@ def kernel(name):
     unif = {8 * k: [random.choice(EDGES) for _ in range(8)] for k in random.sample(range(32), 4)}
     mask = random.choice([ALL, ALL, 0, rand32(), rand32() & rand32() & rand32()])
     fill = (rand32() | 1, rand32() | 1, rand32() | 1)
-    return Vector(name, code(), 32 * n, specials=32 * k, fill=fill, regs=regs, unif=unif, mask=mask, budget=budget)
+    lent = {"fill": fill, "regs": regs, "unif": unif, "mark": marks(n)}
+    return Vector(name, code(), 32 * n, specials=32 * k, mask=mask, budget=budget, **lent)

@@ -1,8 +1,9 @@
-"""Vectors for the refusals 1 to 7, the jumps, the ends of a run, and 01's bench examples."""
+"""Vectors for the refusals 1 to 7, the jumps, the ends of a run, and 01's bench examples. Refusal 10 is in refusal10.py."""
 import random
 
 from assemble import BY_WORD, Operand, assemble, hi, imm, lo, pair, reg, upair
 from data import SOURCES, rand32
+from marked import DISCARD
 from masks import ICMPS, jump
 from vector import ALL, Vector
 
@@ -43,6 +44,17 @@ def sizes():
     for start, code in starts:
         yield short(f"start-{start}-of-{len(code)}", code, start=start, mask=0x80000001)
     yield short("refusal-1-before-3", b"\xff" * 8, budget=0)
+    yield from marks_sizes()
+
+
+def marks_sizes():
+    """Marks for more or fewer registers than are lent; the code would set and clear some."""
+    code = assemble("iadd", D=lo(0), A=lo(0, DISCARD), B=imm(1))
+    lengths = [(1, n) for n in (0, 63, 64, 65, 128)] + [(3, n) for n in (1, 96, 128, 191, 192, 193, 256, 384)]
+    for n, length in lengths + [(128, n) for n in (64, 8128, 8191, 8192, 8193, 8256)]:
+        ending = "finished" if length == 64 * n else "refused 1"
+        lent = {0: bytes([0, 2, 0, 255])[:length]}
+        yield short(f"marks-{length}-of-{n}", code, n, marks=length, mark=lent, mask=0xFFFF0005, says=says(ending=ending))
 
 
 # ---- 2 and 3
@@ -195,7 +207,7 @@ def ends():
 def says(ending=None, steps=None, mask_after=None, word=None, records=None):
     """A check of the printed facts: `word` is (index, value)."""
 
-    def holds(found, numbers, registers, room):
+    def holds(found, numbers, registers, marks, room):
         facts = [(ending, found), (steps, numbers[0]), (mask_after, numbers[2])]
         facts += [(word[1], registers[word[0]])] if word else []
         facts += [(records, room.hex())] if records else []
