@@ -35,7 +35,10 @@ extern "C" {
 #define REEDTASSEL_RECORD_BYTES 16
 #define REEDTASSEL_ENCODING_MOST 8
 
-/* The sizes of what is lent to a run. Register r of thread t is word 32 x r + t, special registers likewise. */
+/*
+ * The sizes of what is lent to a run. Register r of thread t is word 32 x r + t, special registers likewise; the mark
+ * of half h of thread t is byte 32 x h + t.
+ */
 #define REEDTASSEL_THREADS 32
 #define REEDTASSEL_CODE_MOST 8192     /* bytes */
 #define REEDTASSEL_REGISTERS_MOST 128 /* for each thread, at least 1 */
@@ -59,6 +62,7 @@ enum reedtassel_refusal {
     REEDTASSEL_BAD_TARGET = 7,   /* a taken jump to an odd address, below 0 or above the code length */
     REEDTASSEL_NO_ENCODING = 8,  /* the bytes spell no instruction, or one that has no encoding */
     REEDTASSEL_SHORT_BUFFER = 9, /* the buffer is shorter than the encoding */
+    REEDTASSEL_DISCARDED = 10,   /* a register half is read that was marked before the step */
     REEDTASSEL_BAD_ROW = 12,     /* a row of Intel HEX is not as it has to be */
     REEDTASSEL_BAD_SUM = 13,     /* the sum of the row is wrong */
     REEDTASSEL_BAD_ORDER = 14    /* the row is out of place */
@@ -102,7 +106,7 @@ enum reedtassel_operand_kind {
     REEDTASSEL_OPERAND_IMMEDIATE = 7     /* the value, 0 to 255 */
 };
 
-/* hint of struct reedtassel_operand. It changes no value. */
+/* hint of struct reedtassel_operand. It changes no value; in a run, discard marks the halves of a source. */
 enum reedtassel_hint {
     REEDTASSEL_HINT_NONE = 0,
     REEDTASSEL_HINT_CACHE = 1,
@@ -151,7 +155,7 @@ struct reedtassel_instruction {
 /* The answer of a run. */
 struct reedtassel_answer {
     uint32_t ending;  /* enum reedtassel_ending */
-    uint32_t refusal; /* 2 to 7 where refused, else 0 */
+    uint32_t refusal; /* 2 to 7 or 10 where refused, else 0 */
     uint32_t steps;   /* the steps done */
     uint32_t mask;    /* bit t is 1 where thread t is active */
     uint64_t address; /* where the run stands */
@@ -206,6 +210,7 @@ int32_t reedtassel_encode(const uint8_t *instruction, size_t instruction_len, ui
  *
  * code_len       0 to 8,192
  * registers_len  128 x N, N from 1 to 128. Read and written
+ * marks_len      64 x N, so registers_len / 2. Read and written
  * uniforms_len   1,024
  * specials_len   128 x K, K from 0 to 256
  * start          even, at most code_len
@@ -213,16 +218,23 @@ int32_t reedtassel_encode(const uint8_t *instruction, size_t instruction_len, ui
  * records_len    at least 16 x budget. Written
  * answer_len     at least 24. Written
  *
+ * A mark is a byte for a register half and a thread: 0 is clear, any other value is marked. Half 2r is the low half of
+ * register r, 2r + 1 its high half. An instruction that reads a marked half is refused with 10. A source with the
+ * discard hint marks its halves for all 32 threads, active or not, once all sources are read; a thread that then writes
+ * a half clears its mark. Marked is written as 1, clear as 0, and all other bytes stay as they were. Lend zero bytes to
+ * the first run, and to a run that goes on what the last one left.
+ *
  * 0: finished or spent; the answer says which.
- * -2 .. -7: an instruction was refused. The steps before it are done, and it changed nothing.
- * In both cases the answer is written to the first 24 bytes of `answer`, the registers are as the last step left them,
- * and `records` begins with a record of 16 bytes for each step; the bytes after these are untouched.
- * -1: something is not as in the list above. Then nothing is written, neither registers nor records nor answer.
+ * -2 .. -7, -10: an instruction was refused. The steps before it are done, and it changed nothing.
+ * In both cases the answer is written to the first 24 bytes of `answer`, registers and marks are as the last step left
+ * them, and `records` begins with a record of 16 bytes for each step; the bytes after these are untouched.
+ * -1: something is not as in the list above. Then nothing is written, neither registers nor marks nor records nor
+ * answer.
  */
-int32_t reedtassel_run(const uint8_t *code, size_t code_len, uint8_t *registers, size_t registers_len,
-                       const uint8_t *uniforms, size_t uniforms_len, const uint8_t *specials, size_t specials_len,
-                       size_t start, uint32_t mask, size_t budget, uint8_t *records, size_t records_len,
-                       uint8_t *answer, size_t answer_len);
+int32_t reedtassel_run(const uint8_t *code, size_t code_len, uint8_t *registers, size_t registers_len, uint8_t *marks,
+                       size_t marks_len, const uint8_t *uniforms, size_t uniforms_len, const uint8_t *specials,
+                       size_t specials_len, size_t start, uint32_t mask, size_t budget, uint8_t *records,
+                       size_t records_len, uint8_t *answer, size_t answer_len);
 
 /*
  * Reads a kernel from a text in Intel HEX, which may have any length. Rows are of type 00, with 0 to 255 bytes, in

@@ -17,7 +17,10 @@ enum outcome {
  */
 enum outcome list_kernel(const uint8_t *code, size_t length);
 
-/* Runs the code from address 0 with all threads active. Prints the answer, the records, and the registers that changed. */
+/*
+ * Runs the code from address 0 with all threads active. Prints the answer, the records, the registers that changed, and the halves
+ * that are marked.
+ */
 enum outcome run_kernel(const uint8_t *code, size_t length, size_t budget);
 
 #endif
