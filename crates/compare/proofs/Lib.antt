@@ -1,3 +1,2 @@
 pub mod Going
-pub mod Calls
 pub mod Begin

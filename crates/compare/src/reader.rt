@@ -6,7 +6,7 @@ use isa::answer::{Decoded, Refusal};
 use isa::parts::Parts;
 use parts::parts_of;
 
-#[derive(Drop)]
+#[derive(Clone, Copy)]
 pub struct Reader<'a> {
     pub code: &'a [u8],
     pub address: usize,
@@ -14,7 +14,7 @@ pub struct Reader<'a> {
 
 // What stands at the place of a reader: nothing more, at the end of the code or past it; an instruction, by its parts, with its length; or the
 // refusal.
-#[derive(Drop)]
+#[derive(Clone, Copy)]
 pub enum Here {
     Ended,
     Found(Parts, usize),

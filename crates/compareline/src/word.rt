@@ -9,7 +9,7 @@ use comparison::{Field, Kernel};
 use isa::answer;
 use isa::answer::Refusal;
 
-#[derive(Drop)]
+#[derive(Clone, Copy)]
 pub struct Words {
     pub text: [u8; 11],
     pub length: usize,

@@ -2,7 +2,7 @@
 use isa::answer::Refusal;
 
 // A field in which two instructions can differ. `Other` has the number of its lowest bit.
-#[derive(Drop)]
+#[derive(Clone, Copy)]
 pub enum Field {
     Instruction,
     Length,
@@ -17,13 +17,13 @@ pub enum Field {
 }
 
 // The first field in which two instructions differ, if they do.
-#[derive(Drop)]
+#[derive(Clone, Copy)]
 pub enum Difference {
     None,
     In(Field),
 }
 
-#[derive(Drop)]
+#[derive(Clone, Copy)]
 pub enum Kernel {
     First,
     Second,
@@ -31,7 +31,7 @@ pub enum Kernel {
 
 // What the comparison answers: the same; or the address and the field in which they differ, the kernel that ended there, or the
 // refusal and the kernel that it is of.
-#[derive(Drop)]
+#[derive(Clone, Copy)]
 pub enum Comparison {
     Same,
     Differs(usize, Field),

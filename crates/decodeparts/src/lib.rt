@@ -10,7 +10,7 @@ use isa::parts::Parts;
 use readparts::ReadParts;
 
 // The parts of the instruction with its length in bytes, or the refusal.
-#[derive(Drop)]
+#[derive(Clone, Copy)]
 pub enum DecodedParts {
     Found(Parts, usize),
     Refused(Refusal),

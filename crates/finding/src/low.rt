@@ -5,7 +5,7 @@ ghost use Rattle.rows.specs.Table.{table};
 ghost use Rattle.finding.specs.Candidates.{candidates_of};
 
 // The places from first up to end, which is not one of them.
-#[derive(Drop)]
+#[derive(Clone, Copy)]
 pub struct Candidates {
     pub first: usize,
     pub end: usize,

@@ -11,7 +11,7 @@ use lengths::length_of;
 use parts::parts_of;
 
 // What bytes spell: an instruction, or none.
-#[derive(Drop)]
+#[derive(Clone, Copy)]
 pub enum Spelled {
     Is(Instruction),
     None,

@@ -12,7 +12,7 @@ pub const LIMIT: usize = 8192;
 
 // What reading answers: the number of bytes of the kernel; the first bad row, counted from 1, and why it is refused; or that the kernel is
 // too long, or has no room. The definitions of hexcalls have the number of each refusal.
-#[derive(Drop)]
+#[derive(Clone, Copy)]
 pub enum Reading {
     Kernel(usize),
     BadRow(usize, Fault),
@@ -20,7 +20,7 @@ pub enum Reading {
 }
 
 // What writing answers: the number of characters, or that the kernel is too long, or its text has no room.
-#[derive(Drop)]
+#[derive(Clone, Copy)]
 pub enum Writing {
     Text(usize),
     BadSize,

@@ -5,7 +5,7 @@ ghost use Rattle.hexrow.specs.Reads.{size_by, row_at};
 mod says;
 
 // Why a row is refused. specs/Row.antt has the number of each.
-#[derive(Drop)]
+#[derive(Clone, Copy)]
 pub enum Fault {
     Form,
     Sum,
@@ -14,7 +14,7 @@ pub enum Fault {
 
 // What a row says: how many bytes of the kernel it has and how many characters, or that the kernel ends, with its characters too; or why
 // it is refused.
-#[derive(Drop)]
+#[derive(Clone, Copy)]
 pub enum Row {
     Data(usize, usize),
     End(usize),

@@ -5,7 +5,7 @@ ghost use Rattle.isa.specs.Refusal.{number_of};
 use crate::instruction::Instruction;
 
 // Why a call is refused. specs/Refusal.antt has the number of each.
-#[derive(Drop)]
+#[derive(Clone, Copy)]
 pub enum Refusal {
     BadSize,
     CutShort,
@@ -21,28 +21,28 @@ pub enum Refusal {
 
 // What the finding rule answers: the place of a diagram in the list, counted from 0, and the length of the instruction in bytes; or the
 // refusal.
-#[derive(Drop)]
+#[derive(Clone, Copy)]
 pub enum Find {
     At(usize, usize),
     Refused(Refusal),
 }
 
 // What reading the word of a diagram answers.
-#[derive(Drop)]
+#[derive(Clone, Copy)]
 pub enum Reading {
     Is(Instruction),
     NoMeaning,
 }
 
 // What decoding answers: the instruction with its length in bytes, or the refusal.
-#[derive(Drop)]
+#[derive(Clone, Copy)]
 pub enum Decoded {
     Found(Instruction, usize),
     Refused(Refusal),
 }
 
 // What encoding answers: the number of bytes written, or the refusal.
-#[derive(Drop)]
+#[derive(Clone, Copy)]
 pub enum Encoded {
     Wrote(usize),
     Refused(Refusal),

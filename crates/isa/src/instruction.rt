@@ -4,7 +4,7 @@
 use crate::operand::{Binary, Compared, Dst, Hint, Ternary, Unary};
 
 // bfi, bfeil, extr, shlhi, shrhi
-#[derive(Drop)]
+#[derive(Clone, Copy)]
 pub struct Bitfield {
     pub operands: Ternary,
     pub m: u8,
@@ -12,21 +12,21 @@ pub struct Bitfield {
 }
 
 // asr, asrh
-#[derive(Drop)]
+#[derive(Clone, Copy)]
 pub struct Shift {
     pub operands: Binary,
     pub kept: u64,
 }
 
 // bitrev, popcount, ffs
-#[derive(Drop)]
+#[derive(Clone, Copy)]
 pub struct Scan {
     pub operands: Unary,
     pub kept: u64,
 }
 
 // if_icmp, while_icmp, else_icmp. The hint is that of r0l, which is read and written for every thread.
-#[derive(Drop)]
+#[derive(Clone, Copy)]
 pub struct Compare {
     pub hint: Hint,
     pub cc: u8,
@@ -36,7 +36,7 @@ pub struct Compare {
     pub kept: u64,
 }
 
-#[derive(Drop)]
+#[derive(Clone, Copy)]
 pub enum Instruction {
     Mov16 {
         d: Dst,

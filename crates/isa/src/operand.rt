@@ -1,7 +1,7 @@
 // Operands. A half is numbered 2r for the low half of register r and 2r + 1 for its high half; a pair by its first register.
 
 // What an instruction writes.
-#[derive(Drop)]
+#[derive(Clone, Copy)]
 pub enum Destination {
     Half(u8),
     Register(u8),
@@ -9,7 +9,7 @@ pub enum Destination {
 }
 
 // What an instruction reads.
-#[derive(Drop)]
+#[derive(Clone, Copy)]
 pub enum Source {
     Half(u8),
     Register(u8),
@@ -21,7 +21,7 @@ pub enum Source {
 }
 
 // A hint to the register cache. Only a register that is read can have Discard; immediates and uniforms have none.
-#[derive(Drop)]
+#[derive(Clone, Copy)]
 pub enum Hint {
     None,
     Cache,
@@ -29,33 +29,33 @@ pub enum Hint {
 }
 
 // An operand with its hint beside it.
-#[derive(Drop)]
+#[derive(Clone, Copy)]
 pub struct Dst {
     pub destination: Destination,
     pub hint: Hint,
 }
 
-#[derive(Drop)]
+#[derive(Clone, Copy)]
 pub struct Src {
     pub source: Source,
     pub hint: Hint,
 }
 
 // The operands of an instruction, by their letters in document 002.
-#[derive(Drop)]
+#[derive(Clone, Copy)]
 pub struct Unary {
     pub d: Dst,
     pub a: Src,
 }
 
-#[derive(Drop)]
+#[derive(Clone, Copy)]
 pub struct Binary {
     pub d: Dst,
     pub a: Src,
     pub b: Src,
 }
 
-#[derive(Drop)]
+#[derive(Clone, Copy)]
 pub struct Ternary {
     pub d: Dst,
     pub a: Src,
@@ -63,44 +63,44 @@ pub struct Ternary {
     pub c: Src,
 }
 
-#[derive(Drop)]
+#[derive(Clone, Copy)]
 pub struct Compared {
     pub a: Src,
     pub b: Src,
 }
 
 // What reading an operand finds: the operand, or that its bits have no meaning.
-#[derive(Drop)]
+#[derive(Clone, Copy)]
 pub enum ReadDst {
     Is(Dst),
     NoMeaning,
 }
 
-#[derive(Drop)]
+#[derive(Clone, Copy)]
 pub enum ReadSrc {
     Is(Src),
     NoMeaning,
 }
 
-#[derive(Drop)]
+#[derive(Clone, Copy)]
 pub enum ReadUnary {
     Is(Unary),
     NoMeaning,
 }
 
-#[derive(Drop)]
+#[derive(Clone, Copy)]
 pub enum ReadBinary {
     Is(Binary),
     NoMeaning,
 }
 
-#[derive(Drop)]
+#[derive(Clone, Copy)]
 pub enum ReadTernary {
     Is(Ternary),
     NoMeaning,
 }
 
-#[derive(Drop)]
+#[derive(Clone, Copy)]
 pub enum ReadCompared {
     Is(Compared),
     NoMeaning,

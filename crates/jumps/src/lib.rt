@@ -1,4 +1,6 @@
 // Jumps: whether one is taken, and where it lands.
+#![tactic(auto)]
+
 ghost use Rattle.std.specs.Prelude.{◌≡◌, ◌<◌, ◌^◌, pos, ◌+ℤ◌};
 ghost use Rattle.machine.specs.Integer.{sign_extend};
 ghost use Rattle.machine.specs.Step.{taken, landing};
@@ -7,7 +9,7 @@ ghost use Rattle.jumps.specs.AsGoing.{as_going};
 use isa::answer::Refusal;
 
 // The address to go on at and the class of the step, or the refusal.
-#[derive(Drop)]
+#[derive(Clone, Copy)]
 pub enum Going {
     To(usize, u8),
     Nowhere(Refusal),

@@ -1,4 +1,6 @@
 // What one thread reads and writes of a word. Half h is of register h / 2, its low half where h is even, its high half where h is odd.
+#![tactic(auto)]
+
 ghost use Rattle.std.specs.Prelude.{◌≡◌, cond, ◌*◌, ◌/◌, ◌%◌, ◌^◌, ◌<◌, eqb};
 ghost use Rattle.std.specs.Int.Bits.{bit_and, bit_or};
 ghost use Rattle.machine.specs.Lanes.{active_in};

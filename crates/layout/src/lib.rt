@@ -1,4 +1,6 @@
 // Laying out the parts of an instruction as bytes.
+#![tactic(auto)]
+
 ghost use Rattle.std.specs.Prelude.{◌≡◌};
 ghost use Rattle.layout.specs.Lay.{lay_with};
 

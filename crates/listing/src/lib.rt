@@ -8,7 +8,7 @@ mod text;
 use isa::answer::Refusal;
 
 // The number of bytes written, or the refusal.
-#[derive(Drop)]
+#[derive(Clone, Copy)]
 pub enum Listed {
     Wrote(usize),
     Refused(Refusal),

@@ -2,7 +2,7 @@
 use isa::answer::Refusal;
 
 // How a run ended. Refused has the number of specs/Refusal.antt of the instruction set.
-#[derive(Drop)]
+#[derive(Clone, Copy)]
 pub enum Ending {
     Finished,
     Spent,
@@ -10,7 +10,7 @@ pub enum Ending {
 }
 
 // How it ended, the steps done, the address it stands at and the mask.
-#[derive(Drop)]
+#[derive(Clone, Copy)]
 pub struct Answer {
     pub ending: Ending,
     pub steps: usize,

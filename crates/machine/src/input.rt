@@ -1,7 +1,7 @@
 // One of the up to three sources of a step.
 use isa::operand::Src;
 
-#[derive(Drop)]
+#[derive(Clone, Copy)]
 pub enum Input {
     Nothing,
     Operand(Src),

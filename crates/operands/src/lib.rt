@@ -1,4 +1,6 @@
 // Reading operands from a word.
+#![tactic(auto)]
+
 ghost use Rattle.std.specs.Prelude.{◌≡◌, ◌<◌, ◌≤◌};
 ghost use Rattle.isa.specs.Operand.{cache_hint, source_hint, destination_of, uniform_of, source_of};
 ghost use Rattle.operands.specs.At.{dst_at, src_at, unary_at, binary_at, ternary_at, compared_at};

@@ -1,8 +1,10 @@
 // What an instruction computes from the values of its sources: one case for each meaning in document 002, in document order.
+#![tactic(auto)]
+
 pub mod action;
 
 // The flags of iadd and imadd and the bit sizes of their operands; iadd has no C.
-#[derive(Drop)]
+#[derive(Clone, Copy)]
 pub struct Sum {
     pub saturate: u8,
     pub negate: u8,
@@ -17,7 +19,7 @@ pub struct Sum {
 }
 
 // A condition, the bit sizes of what it compares, and the number n beside it.
-#[derive(Drop)]
+#[derive(Clone, Copy)]
 pub struct Test {
     pub cc: u8,
     pub ccn: u8,
@@ -26,7 +28,7 @@ pub struct Test {
     pub n: u8,
 }
 
-#[derive(Drop)]
+#[derive(Clone, Copy)]
 pub struct Truth {
     pub tt0: u8,
     pub tt1: u8,
@@ -34,7 +36,7 @@ pub struct Truth {
     pub tt3: u8,
 }
 
-#[derive(Drop)]
+#[derive(Clone, Copy)]
 pub enum Operation {
     Mov(u32),
     GetSr,

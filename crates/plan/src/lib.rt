@@ -12,7 +12,7 @@ use operations::Operation;
 use operations::action::{Action, Kind};
 
 // Whether there is an instruction that acts, or the refusal.
-#[derive(Drop)]
+#[derive(Clone, Copy)]
 pub enum Verdict {
     Acts,
     Refused(Refusal),
@@ -21,7 +21,7 @@ pub enum Verdict {
 // The address, the length of the instruction there, how many registers and special registers there have to be for it, whether it discards,
 // and its action. Of a
 // plan that is refused, only the address and the refusal say something.
-#[derive(Drop)]
+#[derive(Clone, Copy)]
 pub struct Plan {
     pub address: usize,
     pub bytes: usize,

@@ -1,4 +1,6 @@
 // How many registers, or special registers, an operand needs.
+#![tactic(auto)]
+
 ghost use Rattle.std.specs.Prelude.{◌≡◌, max};
 ghost use Rattle.machine.specs.Words.{destination_reach, source_reach, input_reach, special_reach};
 

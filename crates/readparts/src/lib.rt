@@ -13,7 +13,7 @@ use isa::parts::Parts;
 use masks::{compare, jump, pop_exec};
 use moves::{get_sr, mov16, mov32};
 
-#[derive(Drop)]
+#[derive(Clone, Copy)]
 pub enum ReadParts {
     Are(Parts),
     NoMeaning,

@@ -1,11 +1,13 @@
 // The rows of document 002's bit diagrams, one table in document order: what finding and encoding read of each.
+#![tactic(auto)]
+
 ghost use Rattle.std.specs.Prelude.{◌≡◌, ◌<◌, get_or};
 ghost use Rattle.isa.specs.Decode.{row_at};
 ghost use Rattle.isa.specs.Diagram.{fixed_value};
 ghost use Rattle.rows.specs.Table.{table, no_row};
 
 // A row: its length in bytes, its bit L or 0, ones at its fixed bits, and their values.
-#[derive(Drop)]
+#[derive(Clone, Copy)]
 pub struct Row {
     pub bytes: usize,
     pub bit_l: u64,

@@ -1,4 +1,6 @@
 // Where a run keeps what it has found out of an address: in a slot, with the address beside it.
+#![tactic(auto)]
+
 ghost use Rattle.std.specs.Prelude.{◌≡◌, ◌/◌, ◌%◌, eqb};
 
 pub const SLOTS: usize = 256;

@@ -14,7 +14,7 @@ use jumps::Going;
 use plan::{Plan, Verdict};
 
 // What a step comes to: the address, the mask and, for its record, the length of the instruction and the class; or the refusal.
-#[derive(Drop)]
+#[derive(Clone, Copy)]
 pub enum Turn {
     Goes {
         address: usize,

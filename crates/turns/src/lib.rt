@@ -7,7 +7,7 @@ use isa::answer::Refusal;
 use walk::LIMIT;
 
 // What stands at a place of a code: its end, an instruction, or a refusal.
-#[derive(Drop)]
+#[derive(Clone, Copy)]
 pub enum Standing {
     Ended,
     Found,
@@ -15,7 +15,7 @@ pub enum Standing {
 }
 
 // Both go on by so many bytes, or the answer.
-#[derive(Drop)]
+#[derive(Clone, Copy)]
 pub enum Turn {
     On(usize),
     Stop(Comparison),

@@ -1,4 +1,6 @@
 // Words of 32 bits and the little-endian bytes that spell them, four to a word.
+#![tactic(auto)]
+
 ghost use Rattle.std.specs.Prelude.{◌≡◌, ◌∷◌, [], ◌*◌, length};
 ghost use Rattle.bits.specs.Word.{le};
 ghost use Rattle.words.specs.Spelling.{words_of, bytes_for};

@@ -1,0 +1,11 @@
+use Rattle.fields.proofs.Inserts.{shlhi-is}
+use Rattle.fields.proofs.shlhi.Goals as goal
+
+pub returns : goal.returns
+returns c =
+    let l = c in
+    let n = l in
+    let s = n in
+    let e = rw (l.less.ensures, l.mask.ensures, n.amount-s.ensures) at c.up-ones.ensures in
+    rw (c.across.ensures, n.amount-s.ensures)
+    (shlhi-is s.args.m s.args.a s.args.b s.args.c c.up-ones.result s.ranges.a.fits e)
