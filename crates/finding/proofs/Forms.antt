@@ -1,6 +1,6 @@
 -- The forms of a row, tried one after the other, are the row tried once: the word's bit L says which of two forms it can be.
 use mathlib.Core.Path.{◌≡◌, refl, sym, ap, ap₂, ◌∙◌}
-use mathlib.Core.Bool.{Bool, true, false, cond, ◌&&◌, ◌||◌, or_true, or-false, and-true, and-false}
+use mathlib.Core.Bool.{Bool, true, false, cond, ◌&&◌, ◌||◌, or-true, or-false, and-true, and-false}
 use mathlib.Core.List.{List, [], ◌∷◌, ◌++◌, map}
 use Prim.Native.Nat.{ℕ, suc, ◌*◌, ◌-◌, ◌/◌, ◌%◌, ◌^◌, ◌<◌}
 use native.Mathlib.Omega.{arith}
@@ -83,7 +83,7 @@ abbrev tried_form : ℕ → ℕ → ℕ → Bool → Bool → (Bool → Find) �
 tried_form i b n a more rest = cond (leb b n && a) (Find.At i b) (rest (more || a))
 
 met : (i b n : ℕ) (more : Bool) (rest : Bool → Find) → tried_form i b n true more rest ≡ cond (leb b n) (Find.At i b) (rest true)
-met i b n more rest = simp (and-true, or_true)
+met i b n more rest = simp (and-true, or-true)
 
 missed : (i b n : ℕ) (more : Bool) (rest : Bool → Find) → tried_form i b n false more rest ≡ rest more
 missed i b n more rest = simp (and-false, or-false)

@@ -1,4 +1,6 @@
 // Finding the diagram of the instruction at the start of some bytes. Any slice may be lent; the first eight bytes are looked at, at most.
+#![tactic(auto)]
+
 ghost use Rattle.std.specs.Prelude.{◌≡◌, min, ◌<◌};
 ghost use Rattle.bits.specs.Word.{ones};
 ghost use Rattle.isa.specs.Find.{find_of};

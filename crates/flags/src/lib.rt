@@ -1,5 +1,6 @@
 // The numbers and the flags of operands, as the fields of a word hold them.
 #![tactic(auto)]
+
 ghost use Rattle.std.specs.Prelude.{◌≡◌, ◌<◌};
 ghost use Rattle.encoding.specs.Flags.{dst_numbers, src_numbers, cache_bit, dst_number, dst_flags, hint_bits, src_number, src_flags};
 

@@ -1,5 +1,6 @@
 // Reading 48 bytes as the instruction of a kind: one function for each layout. Bytes that the layout has no use for are not looked at.
 #![tactic(auto)]
+
 ghost use Rattle.std.specs.Prelude.{◌≡◌, ◌+◌, ◌^◌, ◌≤◌, ◌<◌, length};
 ghost use Rattle.formread.specs.Read.{number_at, hint_from, destination_from, source_from, dst_at, src_at, kept_from};
 ghost use Rattle.formread.specs.Read.{unary_from, binary_from, ternary_from, compared_from, bitfield_from, shift_from, scan_from, compare_from};

@@ -1,4 +1,6 @@
 // Reading the words of the other data instructions: sums, bitfields, shifts, bitop and scans. One function for each layout.
+#![tactic(auto)]
+
 ghost use Rattle.std.specs.Prelude.{◌≡◌};
 ghost use Rattle.isa.specs.Decode.{read_at};
 ghost use Rattle.isa.specs.Read.{bitfield, shift, scan};

@@ -1,4 +1,6 @@
 // Reading the word of a diagram: its operands, then the instruction.
+#![tactic(auto)]
+
 ghost use Rattle.std.specs.Prelude.{◌≡◌, ◌<◌};
 ghost use Rattle.isa.specs.Decode.{read_at};
 

@@ -1,4 +1,6 @@
 // Reading the words of the jumps and the mask instructions.
+#![tactic(auto)]
+
 ghost use Rattle.std.specs.Prelude.{◌≡◌};
 ghost use Rattle.isa.specs.Decode.{read_at};
 ghost use Rattle.isa.specs.Read.{compare};

@@ -1,4 +1,6 @@
 // Reading the words of the moves: mov16, mov32 and get_sr.
+#![tactic(auto)]
+
 ghost use Rattle.std.specs.Prelude.{◌≡◌};
 ghost use Rattle.isa.specs.Decode.{read_at};
 

@@ -1,5 +1,6 @@
 // Values with a sign: sign extension, and the arithmetic shifts asr and asrh, all modulo 2^64.
 #![tactic(auto)]
+
 ghost use Rattle.std.specs.Prelude.{◌≡◌, ℕ, ◌/◌, ◌^◌, ◌<◌};
 ghost use Rattle.std.specs.Int.Signed.{shr_z};
 ghost use Rattle.machine.specs.Integer.{modulo};

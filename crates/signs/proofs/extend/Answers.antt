@@ -14,11 +14,11 @@ returns c =
     let p = c.requires in
     let r = c.wrapping_sub_u64.result in
     elim c.if-signed-eq1.branch [
-      then-signed-eq1 w ↦
-        rw (eq-eqb a.signed 1 w.if-signed-eq1.true)
-        (xor_extends a.x a.size r p (omega arith) (rw (w.top-is, sign_power a.size p) at c.wrapping_sub_u64.ensures))
-    | else-signed-eq1 w ↦
-        let z : c.if-signed-eq1.top ≡ 0 = w.top-is in
-        let e : (r + 0) % 2 ^ 64 ≡ bit_xor a.x 0 = rw z at c.wrapping_sub_u64.ensures in
-        rw (ne_eqb a.signed 1 w.if-signed-eq1.false) (omega (arith, xor_zero_r a.x))
+      | then-signed-eq1 w ↦
+          rw (eq-eqb a.signed 1 w.if-signed-eq1.true)
+          (xor_extends a.x a.size r p (omega arith) (rw (w.top-is, sign_power a.size p) at c.wrapping_sub_u64.ensures.value))
+      | else-signed-eq1 w ↦
+          let z : c.if-signed-eq1.top ≡ 0 = w.top-is in
+          let e : (r + 0) % 2 ^ 64 ≡ bit_xor a.x 0 = rw z at c.wrapping_sub_u64.ensures.value in
+          rw (ne_eqb a.signed 1 w.if-signed-eq1.false) (omega (arith, xor_zero_r a.x))
     ]
