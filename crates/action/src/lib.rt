@@ -1,4 +1,6 @@
 // An instruction as what it reads, what it computes and what it writes.
+#![tactic(auto)]
+
 ghost use Rattle.action.specs.Acts.{Acts, Narrow};
 
 mod acts;

@@ -10,7 +10,7 @@ use mir.Facts.{to_z_pos, to_z-of_z}
 
 -- what a call returned, returned
 pub handed_on : (z : ℤ) → mag z < 2 ^ hbits w32 → to_z w32 (of_z w32 z) ≡ z
-handed_on z h = to_z-of_z (record { sfits = h })
+handed_on z h = to_z-of_z {w = w32} (record { sfits = h })
 
 small : (n : ℕ) → n < 256 → SFits w32 (neg_ℤ (pos n))
 small zero h = record { sfits = omega arith }

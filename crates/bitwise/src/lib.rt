@@ -1,5 +1,6 @@
 // The bit manipulation instructions on one thread's values, modulo two to the 64.
 #![tactic(auto)]
+
 ghost use Rattle.std.specs.Prelude.{◌≡◌, cond, ℕ, ◌*◌, ◌/◌, ◌^◌, ◌≤◌, ◌<◌};
 ghost use Rattle.std.specs.Int.Bits.{bit_and, bit_or};
 ghost use Rattle.machine.specs.Integer.{modulo};

@@ -1,4 +1,6 @@
 // Decoding one instruction from the start of some bytes. Any slice may be lent; the first eight bytes are looked at, at most.
+#![tactic(auto)]
+
 ghost use Rattle.std.specs.Prelude.{◌≡◌};
 ghost use Rattle.isa.specs.Decode.{decoded_of, decode_of};
 

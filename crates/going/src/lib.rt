@@ -1,5 +1,7 @@
 // Where a run goes on after an instruction, and which instructions are refused: registers and special registers that are not lent, and
 // targets outside the code. And whether an instruction discards.
+#![tactic(auto)]
+
 ghost use Rattle.std.specs.Prelude.{◌≡◌, ◌<◌, ◌^◌};
 ghost use Rattle.machine.specs.Integer.{sign_extend};
 ghost use Rattle.machine.specs.Meaning.{jumps};

@@ -22,3 +22,49 @@ pub fn read_all<R: Read>(file: &mut R, buffer: &mut [u8]) -> usize
     }
     n
 }
+
+#[cfg(test)]
+mod tests {
+    use super::*;
+    use std::io;
+
+    // Gives a byte in each of so many reads, and then fails.
+    #[derive(Drop)]
+    struct Failing {
+        left: u8,
+    }
+
+    impl Read for Failing {
+        fn read(&mut self, buffer: &mut [u8]) -> io::Result<usize> {
+            if buffer.is_empty() {
+                return Ok(0);
+            }
+            if self.left == 0 {
+                return Err(io::Error::other("the end is not known"));
+            }
+            self.left -= 1;
+            buffer[0] = b'x';
+            Ok(1)
+        }
+    }
+
+    #[test]
+    fn to_the_end_or_a_full_buffer(rt: HostRuntime) {
+        let mut buffer = [0u8; 4];
+        let mut file: &[u8] = b"abc";
+        assert_eq!(rt; read_all(&mut file, &mut buffer), 3);
+        assert!(rt; buffer == *b"abc\0");
+        let mut longer: &[u8] = b"defghi";
+        assert_eq!(rt; read_all(&mut longer, &mut buffer), 4);
+        assert!(rt; buffer == *b"defg");
+        assert!(rt; longer == b"hi".as_slice());
+    }
+
+    #[test]
+    fn a_failed_read_counts_as_a_full_buffer(rt: HostRuntime) {
+        let mut buffer = [0u8; 4];
+        let mut file = Failing { left: 2 };
+        assert_eq!(rt; read_all(&mut file, &mut buffer), 4);
+        assert!(rt; buffer == *b"xx\0\0");
+    }
+}

@@ -1,4 +1,6 @@
 // The length of an instruction's encoding.
+#![tactic(auto)]
+
 ghost use Rattle.std.specs.Prelude.{◌≡◌, ◌-◌, ◌<◌};
 ghost use Rattle.isa.specs.Decode.{row_at};
 ghost use Rattle.isa.specs.Diagram.{field_mask};

@@ -1,5 +1,7 @@
 // Rows of 32 marks, one for each thread: the row of half h begins at byte 32 x h. Each loop looks at all 32 without a branch, so that the
 // compiler can do several at once.
+#![tactic(auto)]
+
 ghost use Rattle.std.specs.Prelude.{◌≡◌, cond, ◌+◌, ◌*◌, ◌≤◌, max, length};
 ghost use Rattle.markrows.specs.Rows.{all_clear, block_marked, row_marked_by, row_set};
 

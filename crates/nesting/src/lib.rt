@@ -1,4 +1,6 @@
 // Nested execution masks: conditions, and what pop_exec, if_icmp, while_icmp and else_icmp make of one thread's r0l, modulo 2^64.
+#![tactic(auto)]
+
 ghost use Rattle.std.specs.Prelude.{◌≡◌, ℕ, ◌^◌, ◌<◌, not, pos, if◌then◌else◌};
 ghost use Rattle.machine.specs.Integer.{modulo};
 ghost use Rattle.machine.specs.Meaning as meaning;

@@ -1,4 +1,6 @@
 // The parts of an instruction.
+#![tactic(auto)]
+
 ghost use Rattle.std.specs.Prelude.{◌≡◌};
 ghost use Rattle.isa.specs.Parts.{parts_of, place_of, same};
 

@@ -1,5 +1,7 @@
 // The words of the other data instructions: sums, bitfields, shifts, bitop and scans. Kept bits, the fixed bits of the table, and each
 // field at its bits, in the order of the diagram. One function for each layout: where diagrams share it, the place says which.
+#![tactic(auto)]
+
 ghost use Rattle.std.specs.Prelude.{◌≡◌, ◌<◌};
 ghost use Rattle.isa.specs.Decode.{row_at};
 ghost use Rattle.isa.specs.Diagram.{fixed_value};

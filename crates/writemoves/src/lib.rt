@@ -1,5 +1,7 @@
 // The words of the moves: mov16, mov32 and get_sr. Kept bits, the fixed bits of the table, and each field at its bits, in the order of
 // the diagram.
+#![tactic(auto)]
+
 ghost use Rattle.std.specs.Prelude.{◌≡◌};
 ghost use Rattle.encoding.specs.Write.{word_for};
 

@@ -1,0 +1,4 @@
+use Rattle.action.proofs.acts.asrh.Goals as goal
+
+pub returns : goal.returns
+returns c = rw (c.binary.ensures, c.source_size-size.ensures)
