@@ -1,4 +1,6 @@
 // What an operation computes for each of the 32 threads, modulo 2^64, from the gathered values of its sources.
+#![tactic(auto)]
+
 mod choice;
 mod loops;
 

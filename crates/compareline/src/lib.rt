@@ -1,4 +1,6 @@
 // The line of a comparison's answer, without a line feed.
+#![tactic(auto)]
+
 ghost use Rattle.std.specs.Prelude.{◌≡◌, ◌<◌, length, take};
 ghost use Rattle.isa.specs.Text.{ascii};
 ghost use Rattle.comparison.specs.AnswerLine.{line_of, at_address, written_of, line_left, Printable};

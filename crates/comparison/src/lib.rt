@@ -1,4 +1,6 @@
 // The comparison of two kernels, as definitions: specs/ has them. No code but types.
+#![tactic(auto)]
+
 use isa::answer::Refusal;
 
 // A field in which two instructions can differ. `Other` has the number of its lowest bit.

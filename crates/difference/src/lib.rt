@@ -1,4 +1,6 @@
 // The first field in which two instructions differ. The tests stand in the order of the definition's list.
+#![tactic(auto)]
+
 ghost use Rattle.std.specs.Prelude.{◌≡◌};
 ghost use Rattle.difference.specs.First.{from_number, or_in, same_operand, number_for, by_form, by_operands, by_number};
 ghost use Rattle.difference.specs.First.{by_signs, by_truth, by_condition, by_fields, by_hints, first_by};

@@ -1,4 +1,6 @@
 // Encoding one instruction: its word is put together, decoded again, and compared with what was given.
+#![tactic(auto)]
+
 ghost use Rattle.std.specs.Prelude.{◌≡◌};
 ghost use Rattle.encode.specs.Encode.{is_found, encoded_of, encoding_left, encoded_from, left_from};
 

@@ -1,4 +1,6 @@
 // Pairs of hexadecimal digits at a place of a text, and the end of a line.
+#![tactic(auto)]
+
 ghost use Rattle.std.specs.Prelude.{◌≡◌, true, ◌+◌, ◌*◌, ◌≤◌, ◌<◌, length, drop};
 ghost use Rattle.std.proofs.lemmas.List.Edits.{sets};
 ghost use Rattle.hexpairs.specs.Pairs.{digit_value, pair_value, pairs, spelled};

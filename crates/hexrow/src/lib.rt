@@ -1,4 +1,6 @@
 // A row of Intel HEX, read at a place of a text.
+#![tactic(auto)]
+
 ghost use Rattle.std.specs.Prelude.{◌≡◌, ◌≤◌, length, drop};
 ghost use Rattle.hexrow.specs.Reads.{size_by, row_at};
 

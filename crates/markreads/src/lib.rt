@@ -1,4 +1,6 @@
 // Whether a step reads a half that is marked.
+#![tactic(auto)]
+
 ghost use Rattle.std.specs.Prelude.{◌≡◌, ◌+◌, ◌*◌, ◌≤◌, length};
 ghost use Rattle.machine.specs.Words.{source_reach, input_reach};
 ghost use Rattle.machine.specs.Marks.{halves_from, source_halves, input_halves};

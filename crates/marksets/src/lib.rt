@@ -1,5 +1,7 @@
 // What a step makes of the marks: sources with discard mark their halves in all threads, and then each thread that writes clears what it
 // writes.
+#![tactic(auto)]
+
 ghost use Rattle.std.specs.Prelude.{◌≡◌, ◌+◌, ◌*◌, ◌≤◌, length};
 ghost use Rattle.machine.specs.Words.{destination_reach, source_reach, input_reach};
 ghost use Rattle.machine.specs.Marks.{halves_from, destination_halves, source_halves, input_discards};

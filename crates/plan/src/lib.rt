@@ -1,4 +1,6 @@
 // The plan of the code at an address: all that a step needs to know of its instruction, so that it is found out once and kept.
+#![tactic(auto)]
+
 ghost use Rattle.std.specs.Prelude.{◌≡◌, ◌≤◌, length, drop};
 ghost use Rattle.isa.specs.Decode.{decoded_of, decode_of};
 ghost use Rattle.isa.specs.Refusal.{refusal};

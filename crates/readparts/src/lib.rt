@@ -1,5 +1,7 @@
 // Reading the word of a diagram into the parts of its instruction, numbers that are soon laid out: quicker than an instruction that is
 // made and at once taken apart.
+#![tactic(auto)]
+
 ghost use Rattle.std.specs.Prelude.{◌≡◌, ◌<◌};
 ghost use Rattle.isa.specs.Decode.{read_at};
 ghost use Rattle.readparts.specs.Parts.{parts_read};

@@ -1,4 +1,6 @@
 // The record of a step.
+#![tactic(auto)]
+
 ghost use Rattle.std.specs.Prelude.{◌≡◌};
 ghost use Rattle.machine.specs.Record.{record_bytes};
 

@@ -1,4 +1,6 @@
 // The sizes of what is lent to a run.
+#![tactic(auto)]
+
 ghost use Rattle.std.specs.Prelude.{◌≡◌, ◌≤◌, eqb};
 ghost use Rattle.machine.specs.Meaning.{both};
 ghost use Rattle.machine.specs.Run.{marks_length};

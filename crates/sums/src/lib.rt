@@ -1,5 +1,6 @@
 // iadd and imadd of one thread's values, modulo 2^64.
 #![tactic(auto)]
+
 mod flags;
 mod limits;
 mod product;

@@ -1,5 +1,5 @@
 -- The step numbers of one thread in an order are 1, 2, .. n.
-use mathlib.Core.Path.{◌≡◌, refl, sym, ap, ap₂, ◌∙◌}
+use mathlib.Core.Path.{◌≡◌, refl, sym, ap, ap₂, ◌∙◌, subst}
 use mathlib.Core.Bool.{Bool, true, false, cond}
 use mathlib.Core.List.{List, [], ◌∷◌}
 use Prim.Native.Nat.{ℕ, zero, suc, ◌+◌, ◌≤◌, ◌<◌}
@@ -96,7 +96,7 @@ is-from (suc n) a (x ∷ xs) u b c = go (eqb x (suc a)) refl (is-from n (suc a) 
         let q : x ≡ suc a = eqb-true _ _ e in
         let w : a + suc n ≡ suc a + n = omega arith in
         ap₂ ◌∷◌ q
-        (i (rw q at u.1) (rw w at b.1) (λ k h g. rw (ne_eqb x k (omega arith)) at (c k (omega arith) (omega arith))))
+        (i (rw q at u.1) (subst (λ (y : ℕ). Below y xs) w b.1) (λ k h g. rw (ne_eqb x k (omega arith)) at (c k (omega arith) (omega arith))))
     go false e i =
         let h : suc a < x = lt_of_le-ne u.0 (λ q. eqb-false _ _ e (sym q)) in
         absurd (omega (arith, times_none (suc a) (suc a) (x ∷ xs) (omega arith) (h, u.1), c (suc a) (omega arith) (omega arith)))

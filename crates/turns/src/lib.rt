@@ -1,4 +1,6 @@
 // What two places say, one of each kernel, at one address: both walks go on, or the answer.
+#![tactic(auto)]
+
 ghost use Rattle.std.specs.Prelude.{◌≡◌};
 ghost use Rattle.turns.specs.Turn.{beginning, agreed, turn_between, is_on, step_of, answer_of};
 

@@ -1,4 +1,6 @@
 // A walk through a kernel: what stands at an address of its code.
+#![tactic(auto)]
+
 ghost use Rattle.std.specs.Prelude.{◌≡◌, ◌≤◌, length};
 ghost use Rattle.walk.specs.Walk.{stands_at};
 

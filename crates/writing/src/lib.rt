@@ -1,4 +1,6 @@
 // The word of an instruction: its kept bits, the fixed bits, and each field at its bits.
+#![tactic(auto)]
+
 ghost use Rattle.std.specs.Prelude.{◌≡◌};
 ghost use Rattle.encoding.specs.Write.{word_for};
 

@@ -1,10 +1,10 @@
 use borrow.Author.Rules.{rules}
-use Rattle.marks.proofs.Laws.{goes_on, stops}
+use Rattle.marks.proofs.Laws.{goes_on_lem, stops}
 use Rattle.marks.proofs.data.Statement.{statement}
 use Rattle.marks.proofs.data.Tie as tie
 
 returns : tie.Need-returns
-returns c = goes_on _ _ _ _ _ c.before.before.before.before.before.«data».ensures c.before.before.before.before.if1.true c.before.before.data2.ensures
+returns c = goes_on_lem _ _ _ _ _ c.before.before.before.before.before.«data».ensures c.before.before.before.before.if1.true c.before.before.data2.ensures
 
 returns-2 : tie.Need-returns-2
 returns-2 c = stops _ _ _ _ c.before.«data».ensures c.if1.false

@@ -1,0 +1,13 @@
+use Prim.Native.Nat.{ℕ, ◌-◌}
+use mathlib.Core.List.{List}
+use Rattle.machine.proofs.Rows.{Filling}
+use Rattle.operations.specs.Operation.{result_by}
+use Rattle.alu.specs.Results.{row_at}
+use Rattle.alu.specs.Choice.{scan_by}
+use Rattle.alu.proofs.loops.scan.Given as goal
+
+abbrev pub invariant-loop-t : goal.invariant-loop-t
+invariant-loop-t l = (b c : List ℕ) → Filling (row_at (result_by (scan_by l.which)) l.a b c) l.initial.out l.out l.t
+
+abbrev pub decreases-loop-t : goal.decreases-loop-t
+decreases-loop-t l = 32 - l.t

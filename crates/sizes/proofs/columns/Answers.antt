@@ -1,0 +1,4 @@
+use Rattle.sizes.proofs.columns.Goals as goal
+
+pub returns : goal.returns
+returns c = cc
