@@ -1,4 +1,6 @@
 // Decoding at an offset, with the instruction left in its byte form.
+#![tactic(auto)]
+
 ghost use Rattle.decodeat.specs.DecodeAt.{DecodesAt};
 
 use answers::returned;

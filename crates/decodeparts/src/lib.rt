@@ -1,5 +1,7 @@
 // Decoding one instruction from the start of some bytes into its parts, without making the instruction. Any slice may be lent; the first
 // eight bytes are looked at, at most.
+#![tactic(auto)]
+
 ghost use Rattle.std.specs.Prelude.{◌≡◌};
 ghost use Rattle.isa.specs.Decode.{decode_of};
 ghost use Rattle.decodeparts.specs.Parts.{found_parts, parts_decoded};

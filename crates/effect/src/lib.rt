@@ -1,5 +1,7 @@
 // What an accepted instruction does to registers and mask; what it does to the marks stands in crate marks. All sources of all threads are read before any thread is written. The rows of
 // sources and results are lent, so that they are made once for many steps.
+#![tactic(auto)]
+
 ghost use Rattle.std.specs.Prelude.{◌≡◌, ◌*◌, ◌≤◌, length};
 ghost use Rattle.machine.specs.Words.{destination_reach};
 ghost use Rattle.machine.specs.Step.{gather_of, own_r0l, write_all, registers_reach, specials_reach};

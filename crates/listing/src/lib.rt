@@ -1,5 +1,6 @@
 // The listing of a kernel as text: a line for each instruction, and a last line that says where it stopped.
 #![tactic(auto)]
+
 ghost use Rattle.std.specs.Prelude.{◌≡◌, length};
 ghost use Rattle.listing.specs.Listing.{listed_of, listing_left};
 

@@ -1,4 +1,6 @@
 // The marks of a step: whether it is refused since it reads a half that is marked, and what it makes of the marks otherwise.
+#![tactic(auto)]
+
 ghost use Rattle.std.specs.Prelude.{◌≡◌, not, ◌*◌, ◌≤◌, length};
 ghost use Rattle.machine.specs.Words.{destination_reach, input_reach};
 ghost use Rattle.machine.specs.Step.{registers_reach};

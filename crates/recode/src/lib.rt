@@ -1,5 +1,6 @@
 // A kernel, decoded and encoded again.
 #![tactic(auto)]
+
 ghost use Rattle.std.specs.Prelude.{◌≡◌, length};
 ghost use Rattle.encode.specs.Encode.{encoding_left};
 ghost use Rattle.recode.specs.Recode.{answer_of, left_of};

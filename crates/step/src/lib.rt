@@ -1,4 +1,6 @@
 // One step of the 32 threads.
+#![tactic(auto)]
+
 ghost use Rattle.std.specs.Prelude.{◌≡◌, ◌*◌, ◌≤◌, ◌<◌, ◌^◌, length};
 ghost use Rattle.machine.specs.Step.{step_of};
 ghost use Rattle.machine.specs.State.{threads_at, state_at};

@@ -9,9 +9,9 @@ use Rattle.hexwrite.proofs.put_rows.Given as goal
 
 abbrev pub invariant-loop-at : goal.invariant-loop-at
 invariant-loop-at l =
-    (at ≤ length l.code) × (length l.n ≡ length l.initial.text)
-    × (l.at + length (rows_all at (drop at l.code)) ≡ length (hex_of l.code))
-    × (sets l.n l.at (rows_all at (drop at l.code)) ≡ sets l.initial.text 0 (hex_of l.code))
+    (l.at ≤ length l.code) × (length l.text ≡ length l.initial.text)
+    × (l.n + length (rows_all l.at (drop l.at l.code)) ≡ length (hex_of l.code))
+    × (sets l.text l.n (rows_all l.at (drop l.at l.code)) ≡ sets l.initial.text 0 (hex_of l.code))
 
 abbrev pub decreases-loop-at : goal.decreases-loop-at
-decreases-loop-at l = length l.code - at
+decreases-loop-at l = length l.code - l.at

@@ -17,29 +17,23 @@ loop-at-init c = (refl, omega arith, refl)
 
 pub overflow_add-at : goal.overflow_add-at
 overflow_add-at c =
-    let found : Turn c.args.code.now c.args.out.now c.loop-at.out c.loop-at.at c.in-Found.i c.in-Found.n = let c.args = c.args in
-    let c.i-1.given.0 = c.i-1.given in
-    let hs : Bytes c.args.code.now = λ k. (c.type_inv.code k).fits in
+    let found : Turn c.args.code.now c.args.out.now c.loop-at.out c.loop-at.at c.in-Found.i c.in-Found.n = let hs : Bytes c.args.code.now = λ k. (c.type_inv.code k).fits in
     turn c.args.code.now c.args.out.now c.loop-at.out c.loop-at.at c.loop-at.invariant.0 c.loop-at.invariant.1 (omega arith) hs
-    c.in-Found.i.0 c.in-Found.i.1.0 (sym c.decode.ensures ∙ c.i-1.given.0.1) in
+    c.in-Found.i c.in-Found.n (sym c.decode.ensures ∙ c.in-Found.is) in
     omega (arith, (found).within)
 
 pub loop-at-smaller-in-Found : goal.loop-at-smaller-in-Found
 loop-at-smaller-in-Found c =
-    let found : Turn c.args.code.now c.args.out.now c.loop-at.out c.loop-at.at c.in-Found.i c.in-Found.n = let c.args = c.args in
-    let c.i-1.given.0 = c.i-1.given in
-    let hs : Bytes c.args.code.now = λ k. (c.type_inv.code k).fits in
+    let found : Turn c.args.code.now c.args.out.now c.loop-at.out c.loop-at.at c.in-Found.i c.in-Found.n = let hs : Bytes c.args.code.now = λ k. (c.type_inv.code k).fits in
     turn c.args.code.now c.args.out.now c.loop-at.out c.loop-at.at c.loop-at.invariant.0 c.loop-at.invariant.1 (omega arith) hs
-    c.in-Found.i.0 c.in-Found.i.1.0 (sym c.decode.ensures ∙ c.i-1.given.0.1) in
+    c.in-Found.i c.in-Found.n (sym c.decode.ensures ∙ c.in-Found.is) in
     omega (arith, (found).within)
 
 pub loop-at-preserved-in-Found : goal.loop-at-preserved-in-Found
 loop-at-preserved-in-Found c =
-    let found : Turn c.args.code.now c.args.out.now c.loop-at.out c.loop-at.at c.in-Found.i c.in-Found.n = let c.args = c.args in
-    let c.i-1.given.0 = c.i-1.given in
-    let hs : Bytes c.args.code.now = λ k. (c.type_inv.code k).fits in
+    let found : Turn c.args.code.now c.args.out.now c.loop-at.out c.loop-at.at c.in-Found.i c.in-Found.n = let hs : Bytes c.args.code.now = λ k. (c.type_inv.code k).fits in
     turn c.args.code.now c.args.out.now c.loop-at.out c.loop-at.at c.loop-at.invariant.0 c.loop-at.invariant.1 (omega arith) hs
-    c.in-Found.i.0 c.in-Found.i.1.0 (sym c.decode.ensures ∙ c.i-1.given.0.1) in
+    c.in-Found.i c.in-Found.n (sym c.decode.ensures ∙ c.in-Found.is) in
     let t = found in
     (t.encoded _ c.encode_again.ensures, omega (arith, t.within), omega arith)
 
@@ -49,12 +43,11 @@ put-requires c =
     omega arith
 
 pub loop-at-preserved : goal.loop-at-preserved
-loop-at-preserved c =
-    (
-      copied c.args.code.now c.args.out.now c.loop-at.out c.loop-at.at c.loop-at.invariant.0 c.loop-at.invariant.1 (omega arith) _ c.put.ensures,
-      omega arith,
-      omega arith,
-    )
+loop-at-preserved c = (
+  copied c.args.code.now c.args.out.now c.loop-at.out c.loop-at.at c.loop-at.invariant.0 c.loop-at.invariant.1 (omega arith) _ c.put.ensures,
+  omega arith,
+  omega arith,
+)
 
 pub returns : goal.returns
 returns c =

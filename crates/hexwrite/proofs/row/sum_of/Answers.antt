@@ -1,5 +1,5 @@
 use mathlib.Core.Path.{◌≡◌, ap}
-use Prim.Native.Nat.{◌+◌, ◌-◌}
+use Prim.Native.Nat.{◌+◌}
 use native.Mathlib.Numerals.{add-one}
 use native.Mathlib.Omega.{arith}
 use lib.ListN.{get_or, drop, drop_of_length-le}
@@ -17,9 +17,3 @@ pub returns : goal.returns
 returns c =
     let t = ap total (drop_of_length-le c.args.bytes.now {i = c.loop-i.i} (omega arith)) in
     omega arith
-
-pub overflow_cast-s : goal.overflow_cast-s
-overflow_cast-s c = omega (arith, c.type_inv.bytes c.loop-i.i)
-
-pub overflow_add-s : goal.overflow_add-s
-overflow_add-s c = omega (arith, c.type_inv.bytes c.loop-i.i)

@@ -12,42 +12,32 @@ loop-at-init c =
 
 pub line_length-n-requires : goal.line_length-n-requires
 line_length-n-requires c =
-    let turn : Step c.args.code.now c.loop-at.at c.in-Found.i c.in-Found.k = let c.loop-at.at = c.loop-at.at in
-    let c.i-1.given.0 = c.i-1.given in
-    step c.args.code.now c.loop-at.at c.in-Found.i.0 c.in-Found.i.1.0 c.decoded_at.result
-    c.loop-at-test.true c.decoded_at.ensures c.i-1.given.0.1 in
+    let turn : Step c.args.code.now c.loop-at.at c.in-Found.i c.in-Found.k = step c.args.code.now c.loop-at.at c.in-Found.i c.in-Found.k c.decoded_at.result
+    c.loop-at-test.true c.decoded_at.ensures c.in-Found.is in
     omega (arith, turn)
 
 pub overflow_add-n : goal.overflow_add-n
 overflow_add-n c =
-    let turn : Step c.args.code.now c.loop-at.at c.in-Found.i c.in-Found.k = let c.loop-at.at = c.loop-at.at in
-    let c.i-1.given.0 = c.i-1.given in
-    step c.args.code.now c.loop-at.at c.in-Found.i.0 c.in-Found.i.1.0 c.decoded_at.result
-    c.loop-at-test.true c.decoded_at.ensures c.i-1.given.0.1 in
+    let turn : Step c.args.code.now c.loop-at.at c.in-Found.i c.in-Found.k = step c.args.code.now c.loop-at.at c.in-Found.i c.in-Found.k c.decoded_at.result
+    c.loop-at-test.true c.decoded_at.ensures c.in-Found.is in
     omega (arith, turn)
 
 pub overflow_add-at : goal.overflow_add-at
 overflow_add-at c =
-    let turn : Step c.args.code.now c.loop-at.at c.in-Found.i c.in-Found.k = let c.loop-at.at = c.loop-at.at in
-    let c.i-1.given.0 = c.i-1.given in
-    step c.args.code.now c.loop-at.at c.in-Found.i.0 c.in-Found.i.1.0 c.decoded_at.result
-    c.loop-at-test.true c.decoded_at.ensures c.i-1.given.0.1 in
+    let turn : Step c.args.code.now c.loop-at.at c.in-Found.i c.in-Found.k = step c.args.code.now c.loop-at.at c.in-Found.i c.in-Found.k c.decoded_at.result
+    c.loop-at-test.true c.decoded_at.ensures c.in-Found.is in
     omega (arith, turn)
 
 pub loop-at-smaller : goal.loop-at-smaller
 loop-at-smaller c =
-    let turn : Step c.args.code.now c.loop-at.at c.in-Found.i c.in-Found.k = let c.loop-at.at = c.loop-at.at in
-    let c.i-1.given.0 = c.i-1.given in
-    step c.args.code.now c.loop-at.at c.in-Found.i.0 c.in-Found.i.1.0 c.decoded_at.result
-    c.loop-at-test.true c.decoded_at.ensures c.i-1.given.0.1 in
+    let turn : Step c.args.code.now c.loop-at.at c.in-Found.i c.in-Found.k = step c.args.code.now c.loop-at.at c.in-Found.i c.in-Found.k c.decoded_at.result
+    c.loop-at-test.true c.decoded_at.ensures c.in-Found.is in
     omega (arith, turn)
 
 pub loop-at-preserved : goal.loop-at-preserved
 loop-at-preserved c =
-    let turn : Step c.args.code.now c.loop-at.at c.in-Found.i c.in-Found.k = let c.loop-at.at = c.loop-at.at in
-    let c.i-1.given.0 = c.i-1.given in
-    step c.args.code.now c.loop-at.at c.in-Found.i.0 c.in-Found.i.1.0 c.decoded_at.result
-    c.loop-at-test.true c.decoded_at.ensures c.i-1.given.0.1 in
+    let turn : Step c.args.code.now c.loop-at.at c.in-Found.i c.in-Found.k = step c.args.code.now c.loop-at.at c.in-Found.i c.in-Found.k c.decoded_at.result
+    c.loop-at-test.true c.decoded_at.ensures c.in-Found.is in
     omega (arith, turn)
 
 pub returns-in-Refused : goal.returns-in-Refused

@@ -18,68 +18,53 @@ loop-at-init c =
 
 pub overflow_add-end : goal.overflow_add-end
 overflow_add-end c =
-    let turn : Step c.args.code.now c.loop-at.at c.in-Found.i c.in-Found.k = let c.loop-at.at = c.loop-at.at in
-    let c.i-1.given.0 = c.i-1.given in
-    step c.args.code.now c.loop-at.at c.in-Found.i.0 c.in-Found.i.1.0
-    c.decoded_at.result c.loop-at-test.true c.decoded_at.ensures c.i-1.given.0.1 in
+    let turn : Step c.args.code.now c.loop-at.at c.in-Found.i c.in-Found.k = step c.args.code.now c.loop-at.at c.in-Found.i c.in-Found.k
+    c.decoded_at.result c.loop-at-test.true c.decoded_at.ensures c.in-Found.is in
     omega (arith, turn)
 
 pub slice_bounds-put_line-end : goal.slice_bounds-put_line-end
 slice_bounds-put_line-end c =
-    let turn : Step c.args.code.now c.loop-at.at c.in-Found.i c.in-Found.k = let c.loop-at.at = c.loop-at.at in
-    let c.i-1.given.0 = c.i-1.given in
-    step c.args.code.now c.loop-at.at c.in-Found.i.0 c.in-Found.i.1.0
-    c.decoded_at.result c.loop-at-test.true c.decoded_at.ensures c.i-1.given.0.1 in
+    let turn : Step c.args.code.now c.loop-at.at c.in-Found.i c.in-Found.k = step c.args.code.now c.loop-at.at c.in-Found.i c.in-Found.k
+    c.decoded_at.result c.loop-at-test.true c.decoded_at.ensures c.in-Found.is in
     omega (arith, turn)
 
 pub put_line-requires : goal.put_line-requires
 put_line-requires c =
-    let turn : Step c.args.code.now c.loop-at.at c.in-Found.i c.in-Found.k = let c.loop-at.at = c.loop-at.at in
-    let c.i-1.given.0 = c.i-1.given in
-    step c.args.code.now c.loop-at.at c.in-Found.i.0 c.in-Found.i.1.0
-    c.decoded_at.result c.loop-at-test.true c.decoded_at.ensures c.i-1.given.0.1 in
+    let turn : Step c.args.code.now c.loop-at.at c.in-Found.i c.in-Found.k = step c.args.code.now c.loop-at.at c.in-Found.i c.in-Found.k
+    c.decoded_at.result c.loop-at-test.true c.decoded_at.ensures c.in-Found.is in
     let t = turn in
     (omega arith, omega arith)
 
 pub line_length-n-requires : goal.line_length-n-requires
 line_length-n-requires c =
-    let turn : Step c.args.code.now c.loop-at.at c.in-Found.i c.in-Found.k = let c.loop-at.at = c.loop-at.at in
-    let c.i-1.given.0 = c.i-1.given in
-    step c.args.code.now c.loop-at.at c.in-Found.i.0 c.in-Found.i.1.0
-    c.decoded_at.result c.loop-at-test.true c.decoded_at.ensures c.i-1.given.0.1 in
+    let turn : Step c.args.code.now c.loop-at.at c.in-Found.i c.in-Found.k = step c.args.code.now c.loop-at.at c.in-Found.i c.in-Found.k
+    c.decoded_at.result c.loop-at-test.true c.decoded_at.ensures c.in-Found.is in
     omega (arith, turn)
 
 pub overflow_add-n : goal.overflow_add-n
 overflow_add-n c =
-    let turn : Step c.args.code.now c.loop-at.at c.in-Found.i c.in-Found.k = let c.loop-at.at = c.loop-at.at in
-    let c.i-1.given.0 = c.i-1.given in
-    step c.args.code.now c.loop-at.at c.in-Found.i.0 c.in-Found.i.1.0
-    c.decoded_at.result c.loop-at-test.true c.decoded_at.ensures c.i-1.given.0.1 in
+    let turn : Step c.args.code.now c.loop-at.at c.in-Found.i c.in-Found.k = step c.args.code.now c.loop-at.at c.in-Found.i c.in-Found.k
+    c.decoded_at.result c.loop-at-test.true c.decoded_at.ensures c.in-Found.is in
     omega (arith, turn)
 
 pub loop-at-smaller : goal.loop-at-smaller
 loop-at-smaller c =
-    let turn : Step c.args.code.now c.loop-at.at c.in-Found.i c.in-Found.k = let c.loop-at.at = c.loop-at.at in
-    let c.i-1.given.0 = c.i-1.given in
-    step c.args.code.now c.loop-at.at c.in-Found.i.0 c.in-Found.i.1.0
-    c.decoded_at.result c.loop-at-test.true c.decoded_at.ensures c.i-1.given.0.1 in
+    let turn : Step c.args.code.now c.loop-at.at c.in-Found.i c.in-Found.k = step c.args.code.now c.loop-at.at c.in-Found.i c.in-Found.k
+    c.decoded_at.result c.loop-at-test.true c.decoded_at.ensures c.in-Found.is in
     omega (arith, turn)
 
 pub loop-at-preserved : goal.loop-at-preserved
 loop-at-preserved c =
-    let turn : Step c.args.code.now c.loop-at.at c.in-Found.i c.in-Found.k = let c.loop-at.at = c.loop-at.at in
-    let c.i-1.given.0 = c.i-1.given in
-    step c.args.code.now c.loop-at.at c.in-Found.i.0 c.in-Found.i.1.0
-    c.decoded_at.result c.loop-at-test.true c.decoded_at.ensures c.i-1.given.0.1 in
+    let turn : Step c.args.code.now c.loop-at.at c.in-Found.i c.in-Found.k = step c.args.code.now c.loop-at.at c.in-Found.i c.in-Found.k
+    c.decoded_at.result c.loop-at-test.true c.decoded_at.ensures c.in-Found.is in
     let t = turn in
-    let c.i-1.given.0 = c.in-Found.i in
     let bytes = take (c.loop-at.at + c.in-Found.k - c.loop-at.at) (drop c.loop-at.at c.args.code.now) in
-    let e = length_line c.loop-at.at bytes (place_of c.i-1.given.0) in (
+    let e = length_line c.loop-at.at bytes (place_of c.in-Found.i) in (
       omega arith,
       omega arith,
       omega arith,
       omega arith,
-      after (line_of c.loop-at.at bytes c.i-1.given.0) (left c.args.code.now (c.loop-at.at + c.in-Found.k)) (left c.args.code.now c.loop-at.at) c.loop-at.text c.put_line.new.text c.loop-at.n
+      after (line_of c.loop-at.at bytes c.in-Found.i) (left c.args.code.now (c.loop-at.at + c.in-Found.k)) (left c.args.code.now c.loop-at.at) c.loop-at.text c.put_line.new.text c.loop-at.n
           (c.loop-at.n + c.line_length-n.result) c.put_line.ensures (omega arith) t.text
           ∙ c.loop-at.invariant.4,
     )
@@ -88,8 +73,7 @@ pub put_refused-requires : goal.put_refused-requires
 unfolding refused_line
 put_refused-requires c =
     let stop : left c.args.code.now c.loop-at.at
-    ≡ refused_line c.loop-at.at c.in-Refused.r = let c.loop-at.at = c.loop-at.at in
-    left_refused c.args.code.now c.loop-at.at c.in-Refused.r c.decoded_at.result
+    ≡ refused_line c.loop-at.at c.in-Refused.r = left_refused c.args.code.now c.loop-at.at c.in-Refused.r c.decoded_at.result
     c.loop-at-test.true c.decoded_at.ensures c.in-Refused.is in
     let e = ap length (stop) in
     (omega arith, omega arith)
@@ -97,10 +81,9 @@ put_refused-requires c =
 pub returns-in-Refused : goal.returns-in-Refused
 returns-in-Refused c =
     let stop : left c.args.code.now c.loop-at.at
-    ≡ refused_line c.loop-at.at c.in-Refused.r = let c.loop-at.at = c.loop-at.at in
-    left_refused c.args.code.now c.loop-at.at c.in-Refused.r c.decoded_at.result
+    ≡ refused_line c.loop-at.at c.in-Refused.r = left_refused c.args.code.now c.loop-at.at c.in-Refused.r c.decoded_at.result
     c.loop-at-test.true c.decoded_at.ensures c.in-Refused.is in
-    c.Put-refused.ensures
+    c.put_refused.ensures
     ∙ ap (λ (s : List ℕ). sets c.loop-at.text c.loop-at.n s) (sym (stop))
     ∙ c.loop-at.invariant.4
 
@@ -114,7 +97,6 @@ put_end-requires c =
 pub returns : goal.returns
 returns c =
     let finish : left c.args.code.now c.loop-at.at ≡ end_line c.loop-at.at = left_end c.args.code.now c.loop-at.at c.loop-at-test.false c.loop-at.invariant.0 in
-    let c.loop-at = c.loop-at in
     c.put_end.ensures
     ∙ ap (λ (s : List ℕ). sets c.loop-at.text c.loop-at.n s) (sym (finish))
     ∙ c.loop-at.invariant.4
