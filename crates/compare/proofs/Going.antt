@@ -4,7 +4,7 @@
 --     Place        the loop's invariant at the addresses of the two readers. It holds at the starts (`place_first`) and after a turn that
 --                  goes on, which takes at least one byte that both codes have (`moves`); where a turn stops, its answer is the
 --                  comparison's (`place-ends`)
-use mathlib.Core.Path.{◌≡◌, refl, sym, ap, ◌∙◌, subst}
+use mathlib.Core.Path.{◌≡◌, refl, sym, ap, ap₂, ◌∙◌, subst}
 use mathlib.Core.Bool.{Bool, true, false, not, cond}
 use mathlib.Core.List.{List}
 use Prim.Native.Nat.{ℕ, ◌+◌, ◌≤◌, ◌<◌}
@@ -118,6 +118,18 @@ Place xs ys i j = (i ≡ j) × (between (rest xs i) (rest ys i) ≡ walks_of xs 
 
 pub place_first : (xs ys : List ℕ) → Place xs ys 0 0
 place_first xs ys = (refl, refl)
+
+-- the turn of two readers that have these codes
+pub turned_at : (xs ys vs ws : List ℕ) (i j : ℕ) (t : Turn) → vs ≡ xs → ws ≡ ys → t ≡ turn_of (here_at vs i) (here_at ws j) i
+    → t ≡ turn_of (here_at xs i) (here_at ys j) i
+turned_at xs ys vs ws i j t p q e = e ∙ ap₂ (λ (v w : List ℕ). turn_of (here_at v i) (here_at w j) i) p q
+
+-- by the test of the code
+pub on_by : (t : Turn) (b : Bool) → b ≡ is_on t → b ≡ true → T (is_on t)
+on_by t b e h = subst T (sym (sym e ∙ h)) tt
+
+pub off_by : (t : Turn) (b : Bool) → b ≡ is_on t → b ≡ false → T (not (is_on t))
+off_by t b e h = subst (λ (x : Bool). T (not x)) (sym (sym e ∙ h)) tt
 
 module _ (xs ys : List ℕ) (i j : ℕ) (t : Turn) (p : Place xs ys i j) (e : t ≡ turn_of (here_at xs i) (here_at ys j) i) where
   at_one : t ≡ turn_of (here_at xs i) (here_at ys i) i

@@ -1,4 +1,6 @@
 // Intel HEX for callers in other languages: a number for an answer, below 0 minus a refusal's. docs/c-interface.md has it.
+#![tactic(auto)]
+
 ghost use Rattle.std.specs.Prelude.{◌≡◌, pos, neg_ℤ};
 ghost use Rattle.hexrow.specs.Row.{fault_number};
 ghost use Rattle.hexcalls.specs.Calls.{row_told, ReadsHex, WritesHex};

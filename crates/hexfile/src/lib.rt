@@ -1,4 +1,6 @@
 // Intel HEX: a kernel read from its text, and written as text.
+#![tactic(auto)]
+
 ghost use Rattle.std.specs.Prelude.{◌≡◌, length};
 ghost use Rattle.hexfile.specs.Read.{reading_of, kernel_left};
 ghost use Rattle.hexfile.specs.Write.{writing_of, text_left};

@@ -1,4 +1,6 @@
 // A run: the 32 threads step in lockstep until the code is at its end, the budget is used up, or an instruction is refused.
+#![tactic(auto)]
+
 ghost use Rattle.std.specs.Prelude.{◌≡◌, true};
 ghost use Rattle.machine.specs.Run.{arranged};
 ghost use Rattle.run.specs.Ran.{Ran, call_of};
