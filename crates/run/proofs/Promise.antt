@@ -31,7 +31,7 @@ promised c h ending steps address mask registers marks room e =
     record {
       answers = λ i. answer (q i).ending (q i).steps (q i).last.address (q i).last.threads.mask;
       leaves = r;
-      marks_left_lem = k;
+      marks_are_left = k;
       writes = ap (λ (l : Left). l.room) q;
       threads = rw (m, r, k) (by_themselves c h);
     }

@@ -23,6 +23,6 @@ call_of code registers marks uniforms specials start mask budget records =
 pub record Ran (c : Call) (answer : Answer) (registers marks records : List ℕ) : Type 0 where
   pub answers : answer ≡ answer_of (run_of c)
   pub leaves : registers ≡ registers_left c
-  pub marks_left_lem : marks ≡ marks_left c
+  pub marks_are_left : marks ≡ marks_left c
   pub writes : records ≡ records_left c
   pub threads : ByThemselves c registers marks answer.mask

@@ -51,7 +51,7 @@ module _ (l : Lent) where
   refused_with_1 e =
       record {
         ends = rw e;
-        leaves = record { registers_left_lem = rw e; marks_left_lem = rw e; records_left_lem = rw e; answer_left = rw e };
+        leaves = record { registers_are_left = rw e; marks_are_left = rw e; records_are_left = rw e; answer_left = rw e };
         threads = λ t. let z : ◌≡◌ {A = ℕ} 0 1 = cc in absurd (omega arith);
       }
 

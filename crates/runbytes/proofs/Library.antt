@@ -32,26 +32,26 @@ module _ (l : Lent) (s : spelled l ≡ true) where
     registers_alike = go (arranged (spelled_call l)) refl
       where
         go : (b : Bool) → arranged (spelled_call l) ≡ b → registers ≡ bytes_for (registers_left (spelled_call l))
-        go true e = rw (s, e) at left.registers-left
+        go true e = rw (s, e) at left.registers_are_left
         go false e =
             let whole = eqb-true (length l.registers % 4) 0 (parts (whole_words (length l.registers)) _ s).0 in
-            let k : registers ≡ l.registers = rw (s, e) at left.registers-left in
+            let k : registers ≡ l.registers = rw (s, e) at left.registers_are_left in
             k ∙ sym (bytes-words l.registers (length l.registers / 4) bytes (omega arith)) ∙ ap bytes_for (sym (nothing_written (spelled_call l) e).0)
 
     pub marks_alike : marks ≡ marks_left (spelled_call l)
     marks_alike = go (arranged (spelled_call l)) refl
       where
         go : (b : Bool) → arranged (spelled_call l) ≡ b → marks ≡ marks_left (spelled_call l)
-        go true e = rw (s, e) at left.marks-left
+        go true e = rw (s, e) at left.marks_are_left
         go false e =
-            let k : marks ≡ l.marks = rw (s, e) at left.marks-left in
+            let k : marks ≡ l.marks = rw (s, e) at left.marks_are_left in
             k ∙ sym (nothing_written (spelled_call l) e).1
 
     pub records_alike : records ≡ records_left (spelled_call l)
     records_alike = go (arranged (spelled_call l)) refl
       where
         go : (b : Bool) → arranged (spelled_call l) ≡ b → records ≡ records_left (spelled_call l)
-        go true e = rw (s, e) at left.records-left
+        go true e = rw (s, e) at left.records_are_left
         go false e =
-            let k : records ≡ l.records = rw (s, e) at left.records-left in
+            let k : records ≡ l.records = rw (s, e) at left.records_are_left in
             k ∙ sym (nothing_written (spelled_call l) e).2

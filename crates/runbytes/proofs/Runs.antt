@@ -42,9 +42,9 @@ module _ (l : Lent) {r u s : ℕ} (h : Space l r u s) where
               ends = rw t (ap (λ (x : Answer). x.ending) q.answers);
               leaves =
                   record {
-                    registers_left_lem = rw t (e.0 ∙ ap bytes_for q.leaves);
-                    marks_left_lem = rw t q.marks-left;
-                    records_left_lem = rw t q.writes;
+                    registers_are_left = rw t (e.0 ∙ ap bytes_for q.leaves);
+                    marks_are_left = rw t q.marks_are_left;
+                    records_are_left = rw t q.writes;
                     answer_left = rw t (left ∙ ap (λ (x : Answer). answer_bytes x ++ drop answer_length l.answer) q.answers);
                   };
               threads = λ taken. rw (e.1, mask_is) q.threads;

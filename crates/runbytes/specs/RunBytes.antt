@@ -72,9 +72,9 @@ ending_of l = cond (call_taken l) (answer_of (run_of (spelled_call l))).ending (
 
 -- what is left of what was lent
 pub record Leaves (l : Lent) (registers marks records answer : List ℕ) : Type 0 where
-  pub registers_left_lem : registers ≡ cond (call_taken l) (bytes_for (registers_left (spelled_call l))) l.registers
-  pub marks_left_lem : marks ≡ cond (call_taken l) (marks_left (spelled_call l)) l.marks
-  pub records_left_lem : records ≡ cond (call_taken l) (records_left (spelled_call l)) l.records
+  pub registers_are_left : registers ≡ cond (call_taken l) (bytes_for (registers_left (spelled_call l))) l.registers
+  pub marks_are_left : marks ≡ cond (call_taken l) (marks_left (spelled_call l)) l.marks
+  pub records_are_left : records ≡ cond (call_taken l) (records_left (spelled_call l)) l.records
   pub answer_left : answer ≡ cond (call_taken l) (answer_bytes (answer_of (run_of (spelled_call l))) ++ drop answer_length l.answer) l.answer
 
 -- the mask in the bytes of an answer

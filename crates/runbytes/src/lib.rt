@@ -1,4 +1,6 @@
 // A run whose registers, uniforms and special registers are lent as little-endian bytes.
+#![tactic(auto)]
+
 ghost use Rattle.std.specs.Prelude.{length};
 ghost use Rattle.runbytes.specs.RunBytes.{RanOnBytes, lent_of};
 ghost use Rattle.runbytes.specs.Space.{Space, RanIn};
