@@ -1,13 +1,17 @@
 // Reads Intel HEX on standard input: reads the text whole, and writes its kernel to standard output. Refused, nothing is written there, and
 // standard error says why, and in which row.
-ghost use Rattle.std.specs.Prelude.{◌≡◌, ◌++◌};
+#![tactic(auto)]
+
+ghost use Rattle.std.specs.Prelude.{◌≡◌, ◌++◌, IfOk};
 ghost use Rattle.isa.specs.Text.{ascii};
-ghost use Rattle.io.specs.Digits.{last_digits};
+ghost use Rattle.hexreader.specs.Digits.{last_digits};
+ghost use Rattle.hexreader.specs.Program.{Reads};
 ghost use Rattle.hexrow.specs.Row.{fault_number};
 
 use hexfile::Reading;
 use hexrow::Fault;
-use libc::{STDERR_FILENO, STDIN_FILENO, STDOUT_FILENO};
+use std::io;
+use std::io::{Read, Write};
 
 // The most characters of a text that is taken. A kernel of 8,192 bytes has 122,893 in rows of one byte with carriage returns.
 const LIMIT: usize = 131072;
@@ -23,28 +27,38 @@ fn words(f: Fault) -> [u8; 15]
     }
 }
 
-// A text with one character more than the most that are taken, or after a read that failed, is too long.
-fn main() {
+// What is answered to the text; its kernel is written. A text with one character more than the most that are taken, or after a read that
+// failed, is too long.
+fn read_file<R: Read, W: Write>(file: &mut R, output: &mut W) -> io::Result<Reading>
+    ensures { IfOk result (λ answer. Reads (R.remaining file.old) (W.contents output.old) (W.contents output.new) answer) }
+{
     let mut text = [0u8; LIMIT + 1];
-    let n = input::read_all(STDIN_FILENO, &mut text);
+    let n = input::read_all(file, &mut text);
     let mut code = [0u8; hexfile::LIMIT];
     if LIMIT < n {
-        io::write_all(STDERR_FILENO, b"refused 1\n");
-        return;
+        return Ok(Reading::BadSize);
     }
     match hexfile::read(&text[..n], &mut code) {
         Reading::Kernel(k) => {
-            if !io::write_all(STDOUT_FILENO, &code[..k]) {
-                io::write_all(STDERR_FILENO, b"unwritten\n");
-            }
+            output.write_all(&code[..k])?;
+            Ok(Reading::Kernel(k))
         }
-        Reading::BadRow(row, f) => {
-            io::write_all(STDERR_FILENO, &words(f));
-            io::print_decimal(STDERR_FILENO, row as u64);
-            io::write_all(STDERR_FILENO, b"\n");
+        refused => Ok(refused),
+    }
+}
+
+fn main(rt: HostRuntime) {
+    match read_file(&mut rt.stdin(), &mut rt.stdout()) {
+        Ok(Reading::Kernel(_)) => {}
+        Ok(Reading::BadRow(row, f)) => {
+            let _ = rt.stderr().write_all(&words(f));
+            let _ = rt.eprintln(row);
         }
-        Reading::BadSize => {
-            io::write_all(STDERR_FILENO, b"refused 1\n");
+        Ok(Reading::BadSize) => {
+            let _ = rt.stderr().write_all(b"refused 1\n");
+        }
+        Err(_) => {
+            let _ = rt.stderr().write_all(b"unwritten\n");
         }
     }
 }

@@ -1,5 +1,7 @@
 // The interface for C: decoding at an offset, encoding, a run and Intel HEX, on numbers and byte slices. docs/c-interface.md has the layouts. A
 // negative number is minus a refusal's. Any numbers and any lengths may be lent.
+#![tactic(auto)]
+
 ghost use Rattle.decodeat.specs.DecodeAt.{DecodesAt};
 ghost use Rattle.reedtassel.specs.EncodeForm.{EncodesForm};
 ghost use Rattle.runbytes.specs.RunBytes.{lent_of};

@@ -1,4 +1,6 @@
 // The comparison for C: two kernels as byte slices, the line of the answer in a lent buffer. docs/c-interface.md has it.
+#![tactic(auto)]
+
 ghost use Rattle.reedtassel_compare.specs.Compare.{Compares};
 
 // The line without a line feed, and its length. Where the buffer is too short for it, -1, and nothing is written.
