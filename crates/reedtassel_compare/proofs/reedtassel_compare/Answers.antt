@@ -1,11 +1,6 @@
 -- The number of bytes written, or -1 where there are none.
-use mathlib.Core.Path.{◌≡◌, ap, ◌∙◌}
-use mathlib.Core.Logic.{◌⊎◌, inl, inr}
-use Prim.Native.Nat.{ℕ, ◌≤◌, ◌<◌}
-use native.Mathlib.Omega.{arith}
-use lib.IntN.{pos, neg_ℤ}
-use lib.ListN.{length}
-use mir.Syntax.{w32}
+use Rattle.std.proofs.Common.{◌≡◌, ℕ, ◌≤◌, ◌<◌, ◌⊎◌, inl, inr, length, arith, ap, ◌∙◌, pos, w32}
+use Rattle.std.specs.Prelude.{neg_ℤ}
 use mir.Facts.{to_z_pos}
 use borrow.Author.Tests.{le-leb, lt-leb}
 use Rattle.comparison.specs.Compare.{compare_of}
@@ -13,7 +8,6 @@ use Rattle.comparison.specs.AnswerLine.{line_of, written_of}
 use Rattle.comparison.specs.declared.Comparison.{Comparison}
 use Rattle.compared.proofs.Lines.{written}
 use Rattle.reedtassel_compare.specs.Compare.{returned_for}
-use Rattle.reedtassel_compare.proofs.reedtassel_compare.Tie as tie
 use Rattle.reedtassel_compare.proofs.reedtassel_compare.Goals as goal
 
 module _ (c : Comparison) (room n : ℕ) (e : n ≡ written_of (line_of c) room) where
@@ -34,10 +28,11 @@ module _ (c : Comparison) (room n : ℕ) (e : n ≡ written_of (line_of c) room)
       go (inr h) = (h.1, rw (le-leb (length (line_of c)) room h.3) (ap pos h.2))
 
 pub returns-then-n-eq0 : goal.returns-then-n-eq0
-returns-then-n-eq0 c = record {
-  returns = refused (compare_of c.args.first.now c.args.second.now) (length c.args.line.now) _ c.compare_line-n.ensures.0 c.if-n-eq0.true;
-  leaves = c.compare_line-n.ensures.1;
-}
+returns-then-n-eq0 c =
+    record {
+      returns = refused (compare_of c.args.first.now c.args.second.now) (length c.args.line.now) _ c.compare_line-n.ensures.0 c.if-n-eq0.true;
+      leaves = c.compare_line-n.ensures.1;
+    }
 
 pub overflow_cast-result : goal.overflow_cast-result
 overflow_cast-result c =
