@@ -7,6 +7,7 @@ use std::os::unix::ffi::OsStrExt;
 const EXAMPLE: [u8; 10] = [0x62, 0x04, 0x34, 0x12, 0x62, 0x05, 0x78, 0x56, 0x34, 0x12];
 const MOV16: [u8; 4] = [0x62, 0x04, 0x34, 0x12];
 const NO_TEXT: &[u8] = b"no \xFF text";
+const LETTERS: &str = "exámple";
 
 /// What is tested, the two names, and the line.
 type Case = (&'static str, &'static str, &'static str, &'static str);
@@ -83,6 +84,7 @@ pub fn files(program: &Program) {
         program.write(name, &EXAMPLE);
     }
     program.write(OsStr::from_bytes(NO_TEXT), &EXAMPLE);
+    program.write(LETTERS, &EXAMPLE);
     std::fs::create_dir(program.folder.join("folder")).expect("a folder");
     program.write("folder/example", &EXAMPLE);
     for (name, to) in [("link", "example"), ("lost", "none")] {
@@ -119,7 +121,7 @@ pub fn outcomes(program: &Program) -> Vec<(String, Result<String, String>)> {
 }
 
 /// What the tables can't name.
-fn others(program: &Program) -> [(&'static str, Result<(), String>, &'static str); 7] {
+fn others(program: &Program) -> [(&'static str, Result<(), String>, &'static str); 8] {
     let whole = program.folder.join("example");
     let pieces: [&[u8]; 3] = [&EXAMPLE[..3], &EXAMPLE[3..4], &EXAMPLE[4..]];
     let (long, longer) = ([&[0x62; 8192][..], &[0x62]], "k".repeat(300));
@@ -127,7 +129,9 @@ fn others(program: &Program) -> [(&'static str, Result<(), String>, &'static str
     let (first, second) = ("0000 refused 1 1", "0000 refused 1 2");
     [
         ("a name from the root", program.prints(&whole, "copy", "same"), "same"),
-        ("a name that is no text", program.prints("example", OsStr::from_bytes(NO_TEXT), "same"), "same"),
+        ("a name of other letters than ASCII's", program.prints("example", LETTERS, "same"), "same"),
+        // std opens no file by such a name; the launcher opens it (tests/parts/compare)
+        ("a name that is no text", program.prints("example", OsStr::from_bytes(NO_TEXT), second), second),
         ("a name of 607 characters", program.prints("example", &far, "same"), "same"),
         ("a name that no file can have", program.prints("example", &longer, second), second),
         ("a pipe, in pieces", program.prints_from_pieces(["/dev/stdin", "copy"], &pieces, "same"), "same"),

@@ -1,5 +1,5 @@
 // Two kernels are compared: both are walked side by side, each by a reader. What stands at the two places of one turn says whether
-// the walks go on or what the answer is. The two walks over readers are proved by hand.
+// the walks go on or what the answer is.
 #![tactic(auto)]
 
 pub mod reader;

@@ -1,4 +1,4 @@
-// A reader carries the code that it was lent and its place in it. Its functions are thin, and proved by hand.
+// A reader carries the code that it was lent and its place in it. Its functions are thin.
 ghost use Rattle.std.specs.Prelude.{◌≡◌, ◌+◌, ◌<◌, ◌^◌};
 ghost use Rattle.compare.specs.Here.{here_by, here_at};
 
