@@ -12,26 +12,20 @@ use machine::input::Input;
 use operations::action::{Action, Kind};
 use operations::{Operation, Sum, Test};
 
-fn source_size(s: Src) -> u8
+pub fn source_size(s: Src) -> u8
     ensures { result ≡ size s }
 {
-    let source = s.source;
-    match source {
-        Source::Half(_) => 16,
-        Source::Register(_) => 32,
-        Source::Pair(_) => 64,
-        Source::UniformHalf(_) => 16,
-        Source::UniformRegister(_) => 32,
-        Source::UniformPair(_) => 64,
-        Source::Immediate(_) => 16,
+    match s.source {
+        Source::Half(_) | Source::UniformHalf(_) | Source::Immediate(_) => 16,
+        Source::Register(_) | Source::UniformRegister(_) => 32,
+        Source::Pair(_) | Source::UniformPair(_) => 64,
     }
 }
 
 fn destination_size(d: Dst) -> u8
     ensures { result ≡ destination_size d.destination }
 {
-    let destination = d.destination;
-    match destination {
+    match d.destination {
         Destination::Half(_) => 16,
         Destination::Register(_) => 32,
         Destination::Pair(_) => 64,
@@ -42,10 +36,9 @@ fn destination_size(d: Dst) -> u8
 fn writes(d: Dst, a: Input, b: Input, c: Input, operation: Operation) -> Action
     ensures { result ≡ writes_by d a b c operation }
 {
-    let destination = d.destination;
     Action {
         kind: Kind::Writes,
-        d: destination,
+        d: d.destination,
         a,
         b,
         c,
@@ -72,184 +65,114 @@ fn masks(a: Input, b: Input, operation: Operation) -> Action
 pub fn jumps(kind: Kind, off: u32) -> Action
     ensures { result ≡ jumps_by kind off }
 {
-    let none = Input::Nothing;
     Action {
         kind,
         d: Destination::Half(0),
-        a: none,
-        b: none,
-        c: none,
+        a: Input::Nothing,
+        b: Input::Nothing,
+        c: Input::Nothing,
         operation: Operation::Mov(0),
         off,
     }
 }
 
-pub fn moves(d: Dst, imm: u32) -> Action
-    ensures { result ≡ writes_by d none none none (Operation.Mov imm) }
+// ---- one for each number of sources
+
+pub fn without_source(d: Dst, operation: Operation) -> Action
+    ensures { result ≡ writes_by d none none none operation }
 {
-    let none = Input::Nothing;
-    writes(d, none, none, none, Operation::Mov(imm))
+    writes(d, Input::Nothing, Input::Nothing, Input::Nothing, operation)
 }
 
 pub fn special(d: Dst, sr: u8) -> Action
     ensures { result ≡ writes_by d (SpecsInput.Special sr) none none Operation.GetSr }
 {
-    writes(
-        d,
-        Input::Special(sr),
-        Input::Nothing,
-        Input::Nothing,
-        Operation::GetSr,
-    )
+    let sr = Input::Special(sr);
+    writes(d, sr, Input::Nothing, Input::Nothing, Operation::GetSr)
 }
 
 pub fn unary(o: Unary, operation: Operation) -> Action
     ensures { result ≡ writes_by o.d (input o.a) none none operation }
 {
-    let d = o.d;
-    let a = o.a;
-    writes(
-        d,
-        Input::Operand(a),
-        Input::Nothing,
-        Input::Nothing,
-        operation,
-    )
+    let a = Input::Operand(o.a);
+    writes(o.d, a, Input::Nothing, Input::Nothing, operation)
 }
 
 pub fn binary(o: Binary, operation: Operation) -> Action
     ensures { result ≡ writes_by o.d (input o.a) (input o.b) none operation }
 {
-    let d = o.d;
-    let a = o.a;
-    let b = o.b;
-    writes(
-        d,
-        Input::Operand(a),
-        Input::Operand(b),
-        Input::Nothing,
-        operation,
-    )
+    let a = Input::Operand(o.a);
+    let b = Input::Operand(o.b);
+    writes(o.d, a, b, Input::Nothing, operation)
 }
 
 pub fn ternary(o: Ternary, operation: Operation) -> Action
     ensures { result ≡ writes_by o.d (input o.a) (input o.b) (input o.c) operation }
 {
-    let d = o.d;
-    let a = o.a;
-    let b = o.b;
-    let c = o.c;
-    writes(
-        d,
-        Input::Operand(a),
-        Input::Operand(b),
-        Input::Operand(c),
-        operation,
-    )
-}
-
-pub fn asr(o: Binary) -> Action
-    ensures { result ≡ writes_by o.d (input o.a) (input o.b) none (Operation.Asr (size o.a)) }
-{
-    let a = o.a;
-    let size = source_size(a);
-    binary(o, Operation::Asr(size))
-}
-
-pub fn asrh(o: Binary) -> Action
-    ensures { result ≡ writes_by o.d (input o.a) (input o.b) none (Operation.Asrh (size o.a)) }
-{
-    let a = o.a;
-    let size = source_size(a);
-    binary(o, Operation::Asrh(size))
-}
-
-pub fn adds(o: Binary, saturate: u8, negate: u8, asigned: u8, bsigned: u8, shift: u8) -> Action
-    ensures { result ≡ writes_by o.d (input o.a) (input o.b) none (Operation.Iadd (sum_for o saturate negate asigned bsigned shift)) }
-{
-    let a = o.a;
-    let b = o.b;
-    let d = o.d;
-    let asize = source_size(a);
-    let bsize = source_size(b);
-    let dsize = destination_size(d);
-    let sum = Sum {
-        saturate,
-        negate,
-        asigned,
-        bsigned,
-        csigned: 0,
-        shift,
-        asize,
-        bsize,
-        csize: 0,
-        dsize,
-    };
-    binary(o, Operation::Iadd(sum))
-}
-
-pub fn multiplies(
-    o: Ternary,
-    saturate: u8,
-    negate: u8,
-    asigned: u8,
-    bsigned: u8,
-    csigned: u8,
-    shift: u8,
-) -> Action
-    ensures { result ≡ writes_by o.d (input o.a) (input o.b) (input o.c)
-        (Operation.Imadd (product_for o saturate negate asigned bsigned csigned shift)) }
-{
-    let a = o.a;
-    let b = o.b;
-    let c = o.c;
-    let d = o.d;
-    let asize = source_size(a);
-    let bsize = source_size(b);
-    let csize = source_size(c);
-    let dsize = destination_size(d);
-    let sum = Sum {
-        saturate,
-        negate,
-        asigned,
-        bsigned,
-        csigned,
-        shift,
-        asize,
-        bsize,
-        csize,
-        dsize,
-    };
-    ternary(o, Operation::Imadd(sum))
-}
-
-pub fn test(o: Compare) -> Test
-    ensures { result ≡ test_for o }
-{
-    let operands = o.operands;
-    let a = operands.a;
-    let b = operands.b;
-    let asize = source_size(a);
-    let bsize = source_size(b);
-    Test {
-        cc: o.cc,
-        ccn: o.ccn,
-        asize,
-        bsize,
-        n: o.n,
-    }
+    let a = Input::Operand(o.a);
+    let b = Input::Operand(o.b);
+    let c = Input::Operand(o.c);
+    writes(o.d, a, b, c, operation)
 }
 
 pub fn compares(o: Compared, operation: Operation) -> Action
     ensures { result ≡ masks_by (input o.a) (input o.b) operation }
 {
-    let a = o.a;
-    let b = o.b;
-    masks(Input::Operand(a), Input::Operand(b), operation)
+    masks(Input::Operand(o.a), Input::Operand(o.b), operation)
 }
 
 pub fn pops(n: u8) -> Action
     ensures { result ≡ masks_by none none (Operation.PopExec n) }
 {
     masks(Input::Nothing, Input::Nothing, Operation::PopExec(n))
+}
+
+// ---- what operations hold beside the flags: the bit sizes of the operands
+
+// Of iadd, which has no C, with no flag set.
+pub fn plain_sum(o: Binary) -> Sum
+    ensures { result ≡ sum_for o 0 0 0 0 0 }
+{
+    Sum {
+        saturate: 0,
+        negate: 0,
+        asigned: 0,
+        bsigned: 0,
+        csigned: 0,
+        shift: 0,
+        asize: source_size(o.a),
+        bsize: source_size(o.b),
+        csize: 0,
+        dsize: destination_size(o.d),
+    }
+}
+
+// Of imadd, with no flag set. One function for both is no plainer: their operands are of two types, and differ in C.
+pub fn plain_product(o: Ternary) -> Sum
+    ensures { result ≡ product_for o 0 0 0 0 0 0 }
+{
+    Sum {
+        saturate: 0,
+        negate: 0,
+        asigned: 0,
+        bsigned: 0,
+        csigned: 0,
+        shift: 0,
+        asize: source_size(o.a),
+        bsize: source_size(o.b),
+        csize: source_size(o.c),
+        dsize: destination_size(o.d),
+    }
+}
+
+pub fn test(o: Compare) -> Test
+    ensures { result ≡ test_for o }
+{
+    Test {
+        cc: o.cc,
+        ccn: o.ccn,
+        asize: source_size(o.operands.a),
+        bsize: source_size(o.operands.b),
+        n: o.n,
+    }
 }

@@ -1,8 +1,7 @@
 // What an operation computes for each of the 32 threads, modulo 2^64, from the gathered values of its sources.
 #![tactic(auto)]
 
-mod choice;
-mod loops;
+mod rows;
 
 ghost use Rattle.std.specs.Prelude.{◌≡◌, length};
 ghost use Rattle.machine.specs.Integer.{modulo};
@@ -10,6 +9,7 @@ ghost use Rattle.machine.specs.Lanes.{tab};
 ghost use Rattle.operations.specs.Operation.{result_by, SizedBy, ValuesWithin, RowsWithin};
 ghost use Rattle.alu.specs.Results.{result_at};
 
+use crate::rows::each;
 use operations::Operation;
 
 // For one thread.
@@ -18,7 +18,7 @@ pub fn result(operation: Operation, a: u64, b: u64, c: u64) -> u64
     ensures { result ≡ modulo (result_by operation a b c) 64 }
 {
     match operation {
-        Operation::Mov(imm) => imm as u64,
+        Operation::Mov(imm) => u64::from(imm),
         Operation::GetSr => a,
         Operation::Iadd(o) => sums::iadd(o, a, b),
         Operation::Imadd(o) => sums::imadd(o, a, b, c),
@@ -45,28 +45,25 @@ pub fn results(operation: Operation, sources: &[[u64; 32]; 3], out: &mut [u64; 3
     requires { (length out.old ≡ 32) × SizedBy operation × RowsWithin operation sources.now }
     ensures { out.new ≡ tab 32 (result_at operation sources.now) }
 {
-    let a = &sources[0];
-    let b = &sources[1];
-    let c = &sources[2];
     match operation {
-        Operation::Mov(imm) => loops::mov(imm, out),
-        Operation::GetSr => loops::get_sr(a, out),
-        Operation::Iadd(o) => loops::iadd(o, a, b, out),
-        Operation::Imadd(o) => loops::imadd(o, a, b, c, out),
-        Operation::Bfi(m) => loops::field(0, m, a, b, c, out),
-        Operation::Bfeil(m) => loops::field(1, m, a, b, c, out),
-        Operation::Extr(m) => loops::field(2, m, a, b, c, out),
-        Operation::Shlhi(m) => loops::field(3, m, a, b, c, out),
-        Operation::Shrhi(m) => loops::field(4, m, a, b, c, out),
-        Operation::Asr(size) => loops::shift(false, size, a, b, out),
-        Operation::Asrh(size) => loops::shift(true, size, a, b, out),
-        Operation::Bitop(o) => loops::bitop(o, a, b, out),
-        Operation::Bitrev => loops::scan(0, a, out),
-        Operation::Popcount => loops::scan(1, a, out),
-        Operation::Ffs => loops::scan(2, a, out),
-        Operation::PopExec(n) => loops::pop_exec(n, c, out),
-        Operation::IfIcmp(o) => loops::compare(0, o, a, b, c, out),
-        Operation::WhileIcmp(o) => loops::compare(1, o, a, b, c, out),
-        Operation::ElseIcmp(o) => loops::compare(2, o, a, b, c, out),
+        Operation::Mov(imm) => each(|_, _, _| u64::from(imm), sources, out),
+        Operation::GetSr => each(|a, _, _| a, sources, out),
+        Operation::Iadd(o) => each(|a, b, _| sums::iadd(o, a, b), sources, out),
+        Operation::Imadd(o) => each(|a, b, c| sums::imadd(o, a, b, c), sources, out),
+        Operation::Bfi(m) => each(|a, b, c| fields::bfi(m, a, b, c), sources, out),
+        Operation::Bfeil(m) => each(|a, b, c| fields::bfeil(m, a, b, c), sources, out),
+        Operation::Extr(m) => each(|a, b, c| fields::extr(m, a, b, c), sources, out),
+        Operation::Shlhi(m) => each(|a, b, c| fields::shlhi(m, a, b, c), sources, out),
+        Operation::Shrhi(m) => each(|a, b, c| fields::shrhi(m, a, b, c), sources, out),
+        Operation::Asr(size) => each(|a, b, _| signs::asr(size, a, b), sources, out),
+        Operation::Asrh(size) => each(|a, b, _| signs::asrh(size, a, b), sources, out),
+        Operation::Bitop(o) => each(|a, b, _| bitwise::bitop(o, a, b), sources, out),
+        Operation::Bitrev => each(|a, _, _| bitwise::bitrev(a), sources, out),
+        Operation::Popcount => each(|a, _, _| bitwise::popcount(a), sources, out),
+        Operation::Ffs => each(|a, _, _| bitwise::ffs(a), sources, out),
+        Operation::PopExec(n) => each(|_, _, c| nesting::pop_exec(n, c), sources, out),
+        Operation::IfIcmp(o) => each(|a, b, c| nesting::if_icmp(o, a, b, c), sources, out),
+        Operation::WhileIcmp(o) => each(|a, b, c| nesting::while_icmp(o, a, b, c), sources, out),
+        Operation::ElseIcmp(o) => each(|a, b, c| nesting::else_icmp(o, a, b, c), sources, out),
     }
 }

@@ -1,6 +1,5 @@
-// Answers as numbers and bytes: of encoding, of a run, and what the exported functions return.
+// Answers as numbers and bytes: of a run, and what the exported functions return.
 #![tactic(auto)]
 
-pub mod encoded;
 pub mod returned;
 pub mod run;

@@ -3,9 +3,10 @@ ghost use Rattle.std.specs.Prelude.{◌≡◌, ◌≤◌, pos};
 ghost use Rattle.answers.specs.Encoded.{count_of};
 ghost use Rattle.answers.specs.Returned.{refused_by, encoded_by, ended_by};
 
-use isa::answer::{Encoded, Refusal};
+use isa::answer::Refusal;
 use machine::answer::Ending;
 
+// `as` and not try_from, whose error could not come: n is at most 8.
 pub fn count(n: usize) -> i32
     requires { n ≤ 8 }
     ensures { result ≡ pos n }
@@ -19,13 +20,13 @@ pub fn refused(r: Refusal) -> i32
     -(isa::answer::number(r) as i32)
 }
 
-pub fn encoded(e: Encoded) -> i32
+pub fn encoded(e: Result<usize, Refusal>) -> i32
     requires { count_of e ≤ 8 }
     ensures { result ≡ encoded_by e }
 {
     match e {
-        Encoded::Wrote(n) => count(n),
-        Encoded::Refused(r) => refused(r),
+        Ok(n) => count(n),
+        Err(r) => refused(r),
     }
 }
 

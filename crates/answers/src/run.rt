@@ -4,6 +4,7 @@ ghost use Rattle.answers.specs.Run.{ending_number, refusal_number, answer_bytes}
 
 use machine::answer::{Answer, Ending};
 
+// The numbers of the C interface.
 fn ending_number(e: Ending) -> u8
     ensures { result ≡ ending_number e }
 {

@@ -1,8 +1,6 @@
--- Whether two lists of numbers are equal.
-use Rattle.std.specs.Prelude.{ℕ, Bool, true, false, ◌&&◌, List, [], ◌∷◌, eqb}
+-- Whether two lists of numbers are equal: what `==` answers.
+use Rattle.std.specs.Prelude.{ℕ, Bool, List, eqb}
+use Rattle.std.specs.Cmp.Lexicographic.{pointwise}
 
 abbrev pub eq_list : List ℕ → List ℕ → Bool
-eq_list [] [] = true
-eq_list [] (y ∷ ys) = false
-eq_list (x ∷ xs) [] = false
-eq_list (x ∷ xs) (y ∷ ys) = eqb x y && eq_list xs ys
+eq_list a b = pointwise eqb a b

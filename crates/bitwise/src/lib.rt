@@ -7,19 +7,13 @@ ghost use Rattle.machine.specs.Integer.{modulo};
 ghost use Rattle.machine.specs.Meaning as meaning;
 ghost use Rattle.bitwise.specs.Truths.{is_undefined};
 
-use operations::Truth;
+use isa::parts::Truth;
 
 // The tables of b and of its complement: the document leaves them undefined, and the result is a.
 fn undefined(o: Truth) -> bool
     ensures { result ≡ is_undefined o.tt0 o.tt1 o.tt2 o.tt3 }
 {
-    if o.tt0 != o.tt1 {
-        return false;
-    }
-    if o.tt2 != o.tt3 {
-        return false;
-    }
-    o.tt0 != o.tt2
+    o.tt0 == o.tt1 && o.tt2 == o.tt3 && o.tt0 != o.tt2
 }
 
 // x where the flag is set, no bit where it is not.
@@ -63,7 +57,7 @@ pub fn bitrev(a: u64) -> u64
 pub fn popcount(a: u64) -> u64
     ensures { (b c : ℕ) → result ≡ modulo (meaning.popcount a b c) 64 }
 {
-    u64::count_ones(a % 0x1_0000_0000) as u64
+    u64::from((a % 0x1_0000_0000).count_ones())
 }
 
 // The place of the highest of the low 32 bits that is set; -1 where none is.
@@ -74,5 +68,5 @@ pub fn ffs(a: u64) -> u64
     if low == 0 {
         return 0xffff_ffff_ffff_ffff;
     }
-    (31 - u32::leading_zeros(low)) as u64
+    u64::from(31 - low.leading_zeros())
 }

@@ -1,42 +1,14 @@
 // A reader carries the code that it was lent and its place in it. Its functions are thin.
 ghost use Rattle.std.specs.Prelude.{◌≡◌, ◌+◌, ◌<◌, ◌^◌};
-ghost use Rattle.compare.specs.Here.{here_by, here_at};
+ghost use Rattle.compare.specs.Here.{here_at};
 
-use isa::answer::{Decoded, Refusal};
-use isa::parts::Parts;
 use parts::parts_of;
+use turns::Here;
 
 #[derive(Clone, Copy)]
 pub struct Reader<'a> {
     pub code: &'a [u8],
     pub address: usize,
-}
-
-// What stands at the place of a reader: nothing more, at the end of the code or past it; an instruction, by its parts, with its length; or the
-// refusal.
-#[derive(Clone, Copy)]
-pub enum Here {
-    Ended,
-    Found(Parts, usize),
-    Refused(Refusal),
-}
-
-fn here_by(decoded: Decoded) -> Here
-    ensures { result ≡ here_by decoded }
-{
-    match decoded {
-        Decoded::Found(i, n) => return Here::Found(parts_of(i), n),
-        Decoded::Refused(r) => return Here::Refused(r),
-    }
-}
-
-fn here_at(code: &[u8], address: usize) -> Here
-    ensures { result ≡ here_at code.now address }
-{
-    if address < code.len() {
-        return here_by(decode::decode(&code[address..]));
-    }
-    Here::Ended
 }
 
 impl<'a> Reader<'a> {
@@ -47,10 +19,15 @@ impl<'a> Reader<'a> {
         Reader { code, address: 0 }
     }
 
+    // What stands at its place: nothing at the end of the code or past it
     pub fn here(self) -> Here
         ensures { result ≡ here_at self.entry.code.now self.entry.address }
     {
-        here_at(self.code, self.address)
+        if self.code.len() <= self.address {
+            return Ok(None);
+        }
+        let (i, n) = decode::decode(&self.code[self.address..])?;
+        Ok(Some((parts_of(i), n)))
     }
 
     // So many bytes further on

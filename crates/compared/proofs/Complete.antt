@@ -1,4 +1,5 @@
 -- The list of fields is complete: two instructions that agree in every entry of it are the same.
+use Rattle.std.proofs.Common.{Some, None}
 use mathlib.Core.Path.{◌≡◌, refl, sym, ap, ap₂, ◌∙◌}
 use mathlib.Core.Bool.{Bool, true, false, cond}
 use mathlib.Core.List.{List, [], ◌∷◌}
@@ -12,26 +13,26 @@ use Rattle.isa.specs.declared.instruction.Instruction.{Instruction}
 use Rattle.isa.proofs.Placed.{kind_within}
 use Rattle.parts.proofs.Back.{back, parts-back, numbers-back}
 use Rattle.comparison.specs.Order.{Entry, others, order, agrees, first_of, difference_of, fields_of}
-use Rattle.comparison.specs.declared.Difference.{Difference}
-use Rattle.difference.proofs.Law.{names, kind_number, told, in_parts, quarters, deeper}
+use Rattle.difference.specs.First.{number_for}
+use Rattle.difference.proofs.Law.{names, told, in_parts, quarters, deeper}
 
 -- two instructions, of n and of m bytes, agree in every entry of a list
 abbrev pub Agree : List Entry → Instruction → ℕ → Instruction → ℕ → Type 0
 Agree [] i n j m = Unit {0}
 Agree (e ∷ es) i n j m = (agrees e i n j m ≡ true) × Agree es i n j m
 
-none_agree : (es : List Entry) (i : Instruction) (n : ℕ) (j : Instruction) (m : ℕ) → first_of es i n j m ≡ Difference.None → Agree es i n j m
+none_agree : (es : List Entry) (i : Instruction) (n : ℕ) (j : Instruction) (m : ℕ) → first_of es i n j m ≡ None → Agree es i n j m
 none_agree [] i n j m h = tt
 none_agree (e ∷ es) i n j m h = go (agrees e i n j m) refl h (λ f. none_agree es i n j m f)
   where
-    go : (s : Bool) → agrees e i n j m ≡ s → cond s (first_of es i n j m) (Difference.In e.called) ≡ Difference.None
-        → (first_of es i n j m ≡ Difference.None → Agree es i n j m) → (agrees e i n j m ≡ true) × Agree es i n j m
+    go : (s : Bool) → agrees e i n j m ≡ s → cond s (first_of es i n j m) (Some e.called) ≡ None
+        → (first_of es i n j m ≡ None → Agree es i n j m) → (agrees e i n j m ≡ true) × Agree es i n j m
     go true f h k = (f, k h)
     go false f h k = let z : ◌≡◌ {A = ℕ} 0 1 = cc in absurd (omega arith)
 
 -- the number of mov16, mov32, get_sr and the jumps; the others have none
 number_of : (i : Instruction) → let p = parts_of i in
-    p.immediate ≡ kind_number 1 1 p + kind_number 2 2 p + kind_number 3 3 p + kind_number 17 18 p
+    p.immediate ≡ number_for 1 1 p + number_for 2 2 p + number_for 3 3 p + number_for 17 18 p
 unfolding parts_of
 number_of (Instruction.Mov16 d imm l kept) = omega arith
 number_of (Instruction.Mov32 d imm l kept) = omega arith
@@ -125,10 +126,10 @@ numbers-same i n j m a₁ =
     let q = parts_of j in
     let told_same : told p ≡ told q = sym (in_parts i) ∙ fields-same i n j m a₁ ∙ in_parts j in
     let f : (k : ℕ) → nth k (told p) ≡ nth k (told q) = λ k. ap (nth k) told_same in
-    let sr : kind_number 3 3 p ≡ kind_number 3 3 q = sr_fields-back _ _ (f 3) (f 4) in
-    let one : kind_number 1 1 p ≡ kind_number 1 1 q = f 1 in
-    let two : kind_number 2 2 p ≡ kind_number 2 2 q = f 2 in
-    let off : kind_number 17 18 p ≡ kind_number 17 18 q = f 19 in
+    let sr : number_for 3 3 p ≡ number_for 3 3 q = sr_fields-back _ _ (f 3) (f 4) in
+    let one : number_for 1 1 p ≡ number_for 1 1 q = f 1 in
+    let two : number_for 2 2 p ≡ number_for 2 2 q = f 2 in
+    let off : number_for 17 18 p ≡ number_for 17 18 q = f 19 in
     let number : p.immediate ≡ q.immediate = omega (arith, number_of i, number_of j) in
     let a₂ = a₁.1 in
     let a₃ = a₂.1 in
@@ -151,14 +152,14 @@ complete i n j m a =
     (sym (parts-back i) ∙ ap back (numbers-back (parts_of i) (parts_of j) (numbers-same i n j m s)) ∙ parts-back j, ap (nth 0) s.1.0)
 
 -- So they have no difference exactly where they are the same.
-pub no_difference : (i : Instruction) (n : ℕ) (j : Instruction) (m : ℕ) → difference_of i n j m ≡ Difference.None → (i ≡ j) × (n ≡ m)
+pub no_difference : (i : Instruction) (n : ℕ) (j : Instruction) (m : ℕ) → difference_of i n j m ≡ None → (i ≡ j) × (n ≡ m)
 unfolding difference_of
 no_difference i n j m e = complete i n j m (none_agree order i n j m e)
 
-self : (es : List Entry) (i : Instruction) (n : ℕ) → first_of es i n i n ≡ Difference.None
+self : (es : List Entry) (i : Instruction) (n : ℕ) → first_of es i n i n ≡ None
 self [] i n = refl
 self (e ∷ es) i n = rw (eq_list_self (e.numbers i n)) (self es i n)
 
-pub no_difference_self : (i : Instruction) (n : ℕ) → difference_of i n i n ≡ Difference.None
+pub no_difference_self : (i : Instruction) (n : ℕ) → difference_of i n i n ≡ None
 unfolding difference_of
 no_difference_self i n = self order i n

@@ -1,6 +1,7 @@
 -- The kernels exchanged: `ended` tells the other kernel, and no other answer changes that is not a refusal. A refusal of one kernel is
 -- told of it, at the same address; where both are too long, or neither is and both are refused there, each order tells the refusal of the kernel that
 -- stands first.
+use Rattle.std.proofs.Common.{Option, Some}
 use mathlib.Core.Path.{◌≡◌, refl, sym, ap, ◌∙◌}
 use mathlib.Core.List.{List, [], ◌∷◌}
 use mathlib.Core.Bool.{Bool, true, false, cond}
@@ -17,7 +18,7 @@ use Rattle.isa.specs.declared.instruction.Instruction.{Instruction}
 use Rattle.walk.specs.Walk.{limit}
 use Rattle.comparison.specs.Order.{Entry, order, agrees, first_of, difference_of}
 use Rattle.comparison.specs.Compare.{compare_of}
-use Rattle.comparison.specs.declared.Difference.{Difference}
+use Rattle.comparison.specs.declared.Field.{Field}
 use Rattle.comparison.specs.declared.Kernel.{Kernel}
 use Rattle.comparison.specs.declared.Comparison.{Comparison}
 use Rattle.compared.proofs.Together.{Refuses, Stands, ends, finds, refuses, stands, within, Together, exchange_together}
@@ -45,7 +46,7 @@ first_exchanged : (es : List Entry) (i : Instruction) (n : ℕ) (j : Instruction
 first_exchanged [] i n j m = refl
 first_exchanged (e ∷ es) i n j m =
     rw (eq_list_sym (e.numbers i n) (e.numbers j m))
-    (ap (λ (d : Difference). cond (agrees e j m i n) d (Difference.In e.called)) (first_exchanged es i n j m))
+    (ap (λ (d : Option Field). cond (agrees e j m i n) d (Some e.called)) (first_exchanged es i n j m))
 
 -- Two instructions differ first in the same field, whichever stands first.
 pub difference_exchanged : (i : Instruction) (n : ℕ) (j : Instruction) (m : ℕ) → difference_of i n j m ≡ difference_of j m i n

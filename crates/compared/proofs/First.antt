@@ -1,5 +1,6 @@
 -- The field that is named: the two instructions differ in it, and in no entry before it. And the order of the other fields: by their
 -- lowest bits, in every diagram.
+use Rattle.std.proofs.Common.{Some}
 use mathlib.Core.Path.{◌≡◌, refl, sym, ap, ap₂, ◌∙◌, subst}
 use mathlib.Core.Bool.{Bool, true, false, cond, ◌&&◌, ◌||◌}
 use mathlib.Core.List.{List, [], ◌∷◌, ◌++◌, map}
@@ -20,7 +21,6 @@ use Rattle.isa.specs.declared.instruction.Instruction.{Instruction}
 use Rattle.encoding.specs.Write.{fields_for}
 use Rattle.comparison.specs.Order.{Entry, entry, others, order, other, fields_of, agrees, first_of, difference_of, low_in, lowest}
 use Rattle.comparison.specs.declared.Field.{Field}
-use Rattle.comparison.specs.declared.Difference.{Difference}
 use Rattle.compared.proofs.Complete.{Agree}
 
 -- ---- the field that is named
@@ -35,13 +35,13 @@ pub record FirstIn (es : List Entry) (i : Instruction) (n : ℕ) (j : Instructio
   pub agree : Agree before i n j m
   pub differ : agrees entry i n j m ≡ false
 
-first_in_lem : (es : List Entry) (i : Instruction) (n : ℕ) (j : Instruction) (m : ℕ) (f : Field) → first_of es i n j m ≡ Difference.In f
+first_in_lem : (es : List Entry) (i : Instruction) (n : ℕ) (j : Instruction) (m : ℕ) (f : Field) → first_of es i n j m ≡ Some f
     → FirstIn es i n j m f
 first_in_lem [] i n j m f h = let z : ◌≡◌ {A = ℕ} 0 1 = cc in absurd (omega arith)
 first_in_lem (e ∷ es) i n j m f h = go (agrees e i n j m) refl h (λ g. first_in_lem es i n j m f g)
   where
-    go : (s : Bool) → agrees e i n j m ≡ s → cond s (first_of es i n j m) (Difference.In e.called) ≡ Difference.In f
-        → (first_of es i n j m ≡ Difference.In f → FirstIn es i n j m f) → FirstIn (e ∷ es) i n j m f
+    go : (s : Bool) → agrees e i n j m ≡ s → cond s (first_of es i n j m) (Some e.called) ≡ Some f
+        → (first_of es i n j m ≡ Some f → FirstIn es i n j m f) → FirstIn (e ∷ es) i n j m f
     go true g h k =
         let r = k h in
         record {
@@ -58,16 +58,16 @@ first_in_lem (e ∷ es) i n j m f h = go (agrees e i n j m) refl h (λ g. first_
 
 -- what holds of every name of a list holds of the one that is told
 pub named_in : (P : Field → Bool) (es : List Entry) → T (all (λ (e : Entry). P e.called) es) → (i : Instruction) (n : ℕ)
-    (j : Instruction) (m : ℕ) (f : Field) → first_of es i n j m ≡ Difference.In f → T (P f)
+    (j : Instruction) (m : ℕ) (f : Field) → first_of es i n j m ≡ Some f → T (P f)
 named_in P [] h i n j m f e = let z : ◌≡◌ {A = ℕ} 0 1 = cc in absurd (omega arith)
 named_in P (x ∷ es) h i n j m f e = go (agrees x i n j m) e (named_in P es (right (P x.called) _ h) i n j m f)
   where
-    go : (s : Bool) → cond s (first_of es i n j m) (Difference.In x.called) ≡ Difference.In f
-        → (first_of es i n j m ≡ Difference.In f → T (P f)) → T (P f)
+    go : (s : Bool) → cond s (first_of es i n j m) (Some x.called) ≡ Some f
+        → (first_of es i n j m ≡ Some f → T (P f)) → T (P f)
     go true e k = k e
     go false e k = let z : x.called ≡ f = cc in subst (λ (y : Field). T (P y)) z (left (P x.called) _ h)
 
-pub named_first : (i : Instruction) (n : ℕ) (j : Instruction) (m : ℕ) (f : Field) → difference_of i n j m ≡ Difference.In f
+pub named_first : (i : Instruction) (n : ℕ) (j : Instruction) (m : ℕ) (f : Field) → difference_of i n j m ≡ Some f
     → FirstIn order i n j m f
 unfolding difference_of
 named_first i n j m f h = first_in_lem order i n j m f h
@@ -186,15 +186,15 @@ module _ (i : Instruction) (n : ℕ) (j : Instruction) (m : ℕ) (same : place_o
     there : has_all (row_at (place_of i)) (get_or ns place []) ≡ true
     differ : eq_list (fields_of (get_or ns place []) i) (fields_of (get_or ns place []) j) ≡ false
 
-  told_in : (ns : List (List String)) → Noughts i ns → Noughts j ns → (f : Field) → first_of (map other ns) i n j m ≡ Difference.In f
+  told_in : (ns : List (List String)) → Noughts i ns → Noughts j ns → (f : Field) → first_of (map other ns) i n j m ≡ Some f
       → ToldIn ns f
   told_in [] x y f e = let z : ◌≡◌ {A = ℕ} 0 1 = cc in absurd (omega arith)
   told_in (names ∷ ns) x y f e =
       go (agrees (other names) i n j m) refl e (told_in ns (ap tail x) (ap tail y) f)
     where
       go : (s : Bool) → agrees (other names) i n j m ≡ s
-          → cond s (first_of (map other ns) i n j m) (Difference.In (Field.Other (lowest names))) ≡ Difference.In f
-          → (first_of (map other ns) i n j m ≡ Difference.In f → ToldIn ns f) → ToldIn (names ∷ ns) f
+          → cond s (first_of (map other ns) i n j m) (Some (Field.Other (lowest names))) ≡ Some f
+          → (first_of (map other ns) i n j m ≡ Some f → ToldIn ns f) → ToldIn (names ∷ ns) f
       go true g e k =
           let r = k e in
           record { place = suc r.place; called = r.called; there = r.there; differ = r.differ }
@@ -209,13 +209,13 @@ module _ (i : Instruction) (n : ℕ) (j : Instruction) (m : ℕ) (same : place_o
 
 -- the list is three lists
 first_append : (xs ys : List Entry) (i : Instruction) (n : ℕ) (j : Instruction) (m : ℕ) (f : Field)
-    → first_of (xs ++ ys) i n j m ≡ Difference.In f → (first_of xs i n j m ≡ Difference.In f) ⊎ (first_of ys i n j m ≡ Difference.In f)
+    → first_of (xs ++ ys) i n j m ≡ Some f → (first_of xs i n j m ≡ Some f) ⊎ (first_of ys i n j m ≡ Some f)
 first_append [] ys i n j m f e = inr e
 first_append (x ∷ xs) ys i n j m f e = go (agrees x i n j m) e (first_append xs ys i n j m f)
   where
-    go : (s : Bool) → cond s (first_of (xs ++ ys) i n j m) (Difference.In x.called) ≡ Difference.In f
-        → (first_of (xs ++ ys) i n j m ≡ Difference.In f → (first_of xs i n j m ≡ Difference.In f) ⊎ (first_of ys i n j m ≡ Difference.In f))
-        → (cond s (first_of xs i n j m) (Difference.In x.called) ≡ Difference.In f) ⊎ (first_of ys i n j m ≡ Difference.In f)
+    go : (s : Bool) → cond s (first_of (xs ++ ys) i n j m) (Some x.called) ≡ Some f
+        → (first_of (xs ++ ys) i n j m ≡ Some f → (first_of xs i n j m ≡ Some f) ⊎ (first_of ys i n j m ≡ Some f))
+        → (cond s (first_of xs i n j m) (Some x.called) ≡ Some f) ⊎ (first_of ys i n j m ≡ Some f)
     go true e k = k e
     go false e k = inl e
 
@@ -247,15 +247,15 @@ others-alone = (tt, tt)
 
 -- the two agree in the first entry, unless it is told
 first_agrees : (e : Entry) (es : List Entry) (i : Instruction) (n : ℕ) (j : Instruction) (m : ℕ) (f : Field)
-    → first_of (e ∷ es) i n j m ≡ Difference.In f → (e.called ≡ f → ⊥) → agrees e i n j m ≡ true
+    → first_of (e ∷ es) i n j m ≡ Some f → (e.called ≡ f → ⊥) → agrees e i n j m ≡ true
 first_agrees e es i n j m f h k = go (agrees e i n j m) refl h
   where
-    go : (s : Bool) → agrees e i n j m ≡ s → cond s (first_of es i n j m) (Difference.In e.called) ≡ Difference.In f → agrees e i n j m ≡ true
+    go : (s : Bool) → agrees e i n j m ≡ s → cond s (first_of es i n j m) (Some e.called) ≡ Some f → agrees e i n j m ≡ true
     go true g h = g
     go false g h = absurd (k (let z : e.called ≡ f = cc in z))
 
 -- another field is told only of instructions of one diagram
-same-diagram : (i : Instruction) (n : ℕ) (j : Instruction) (m b : ℕ) → first_of order i n j m ≡ Difference.In (Field.Other b)
+same-diagram : (i : Instruction) (n : ℕ) (j : Instruction) (m b : ℕ) → first_of order i n j m ≡ Some (Field.Other b)
     → place_of i ≡ place_of j
 unfolding rows others order
 same-diagram i n j m b e =
@@ -264,7 +264,7 @@ same-diagram i n j m b e =
     ap (λ (l : List ℕ). get_or l 0 0) (eq_list-is (place_of i ∷ []) (place_of j ∷ []) a)
 
 -- The number tells fields that the diagram of the instruction has, and in these the two differ.
-pub field_told : (i : Instruction) (n : ℕ) (j : Instruction) (m b : ℕ) → difference_of i n j m ≡ Difference.In (Field.Other b)
+pub field_told : (i : Instruction) (n : ℕ) (j : Instruction) (m b : ℕ) → difference_of i n j m ≡ Some (Field.Other b)
     → FieldTold i j b
 unfolding difference_of
 field_told i n j m b e = go (first_append heads (map other others ++ tails) i n j m (Field.Other b) (ap (λ (es : List Entry). first_of es i n j m) (sym three) ∙ e))
@@ -280,12 +280,12 @@ field_told i n j m b e = go (first_append heads (map other others ++ tails) i n 
           differ = r.differ;
         }
 
-    rest : (first_of (map other others) i n j m ≡ Difference.In (Field.Other b)) ⊎ (first_of tails i n j m ≡ Difference.In (Field.Other b))
+    rest : (first_of (map other others) i n j m ≡ Some (Field.Other b)) ⊎ (first_of tails i n j m ≡ Some (Field.Other b))
         → FieldTold i j b
     rest (inl f) = found (told_in i n j m (same-diagram i n j m b e) others (not_there i) (not_there j) (Field.Other b) f)
     rest (inr f) = absurd (named_in not_other tails others-alone.1 i n j m (Field.Other b) f)
 
-    go : (first_of heads i n j m ≡ Difference.In (Field.Other b)) ⊎ (first_of (map other others ++ tails) i n j m ≡ Difference.In (Field.Other b))
+    go : (first_of heads i n j m ≡ Some (Field.Other b)) ⊎ (first_of (map other others ++ tails) i n j m ≡ Some (Field.Other b))
         → FieldTold i j b
     go (inl f) = absurd (named_in not_other heads others-alone.0 i n j m (Field.Other b) f)
     go (inr f) = rest (first_append (map other others) tails i n j m (Field.Other b) f)

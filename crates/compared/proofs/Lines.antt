@@ -1,8 +1,8 @@
 -- No two different answers give the same line: from the line the answer is read again.
-use mathlib.Core.Path.{◌≡◌, refl, sym, ap, ap₂, ◌∙◌}
+use Rattle.std.proofs.Common.{Option, Some, None}
+use mathlib.Core.Path.{◌≡◌, refl, sym, ap, ap₂, ◌∙◌, subst}
 use mathlib.Core.Bool.{Bool, true, false, cond}
 use mathlib.Core.List.{List, [], ◌∷◌, ◌++◌}
-use mathlib.Core.Logic.{◌⊎◌, inl, inr}
 use Prim.Native.Nat.{ℕ, ◌+◌, ◌*◌, ◌-◌, ◌/◌, ◌%◌, ◌<◌, ◌≤◌}
 use native.Mathlib.Omega.{arith}
 use lib.Dec.{eqb, leb, ltb}
@@ -175,27 +175,26 @@ line_length (Comparison.Refused at r k) = omega arith
 -- ---- the call on a text
 
 -- a text of sixteen bytes or more has room: its first bytes are the line
-pub with-room : (c : Comparison) (old new : List ℕ) (n : ℕ) → 16 ≤ length old → n ≡ written_of (line_of c) (length old)
-    → new ≡ line_left (line_of c) old → (n ≤ 16) × (length new ≡ length old) × (take n new ≡ line_of c)
-with-room c old new n h e f =
+pub with-room : (c : Comparison) (old new : List ℕ) (o : Option ℕ) → 16 ≤ length old → o ≡ written_of (line_of c) (length old)
+    → new ≡ line_left (line_of c) old
+    → (o ≡ Some (length (line_of c))) × (length (line_of c) ≤ 16) × (length new ≡ length old) × (take (length (line_of c)) new ≡ line_of c)
+with-room c old new o h e f =
     let line = line_of c in
     let l = line_length c in
     let t = le-leb (length line) (length old) (omega arith) in
-    let m : n ≡ length line = rw t at e in
     let g : new ≡ line ++ drop (length line) old = rw t at f in
     let s = length-append line (drop (length line) old) in
     let d = length-drop (length line) old in
-    (omega arith, omega (arith, ap length g), rw (m, g) (take-append_seam line (drop (length line) old)))
+    (rw t at e, l.1, omega (arith, ap length g), rw g (take-append_seam line (drop (length line) old)))
 
--- no byte is written exactly where the text is too short for the line
-pub written : (c : Comparison) (room n : ℕ) → n ≡ written_of (line_of c) room
-    → ((n ≡ 0) × (room < length (line_of c))) ⊎ ((0 < n) × (n ≤ 16) × (n ≡ length (line_of c)) × (length (line_of c) ≤ room))
-written c room n e = go (leb (length (line_of c)) room) refl
+-- nothing is written exactly where the text is too short for the line
+abbrev pub Written : List ℕ → ℕ → Option ℕ → Type 0
+Written line room None = room < length line
+Written line room (Some n) = (n ≤ 16) × (n ≡ length line) × (length line ≤ room)
+
+pub written : (c : Comparison) (room : ℕ) (o : Option ℕ) → o ≡ written_of (line_of c) room → Written (line_of c) room o
+written c room o e = subst (Written (line_of c) room) (sym e) (go (leb (length (line_of c)) room) refl)
   where
-    go : (s : Bool) → leb (length (line_of c)) room ≡ s
-        → ((n ≡ 0) × (room < length (line_of c))) ⊎ ((0 < n) × (n ≤ 16) × (n ≡ length (line_of c)) × (length (line_of c) ≤ room))
-    go true f =
-        let l = line_length c in
-        let m : n ≡ length (line_of c) = rw f at e in
-        inr (omega arith, omega arith, m, leb-true (length (line_of c)) room f)
-    go false f = inl (rw f at e, leb-false (length (line_of c)) room f)
+    go : (s : Bool) → leb (length (line_of c)) room ≡ s → Written (line_of c) room (cond s (Some (length (line_of c))) None)
+    go true f = ((line_length c).1, refl, leb-true (length (line_of c)) room f)
+    go false f = leb-false (length (line_of c)) room f

@@ -1,10 +1,10 @@
 -- What each answer means. The same: exactly where both walks reach the end and all bytes are equal. A field, an end or a refusal: what
 -- stands at the address in each kernel, and that all bytes before it are equal.
+use Rattle.std.proofs.Common.{Ok, Some, None}
 use mathlib.Core.Path.{◌≡◌, refl, sym, ap, ap₂, ◌∙◌}
 use mathlib.Core.Bool.{Bool, true, false, cond}
 use mathlib.Core.List.{List}
 use mathlib.Core.Logic.{◌↔◌, ◌⊎◌, inl, inr}
-use mathlib.Core.Option.{none}
 use Prim.Native.Nat.{ℕ, ◌≤◌, ◌<◌}
 use native.Mathlib.Omega.{arith}
 use lib.Dec.{leb}
@@ -14,13 +14,12 @@ use borrow.Author.Tests.{le-leb, leb-true, leb-false}
 use Rattle.bits.proofs.Laws.{Bytes}
 use Rattle.isa.specs.Refusal.{refusal}
 use Rattle.isa.specs.declared.answer.Refusal.{Refusal}
-use Rattle.isa.specs.declared.answer.Decoded.{Decoded}
 use Rattle.isa.specs.declared.instruction.Instruction.{Instruction}
+use Rattle.isa.specs.Answer.{Decoded}
 use Rattle.walk.specs.Walk.{refused, walk_from, walk_of, limit, refusal_of}
 use Rattle.comparison.specs.Order.{order, difference_of}
 use Rattle.comparison.specs.Compare.{compare_of}
 use Rattle.comparison.specs.declared.Field.{Field}
-use Rattle.comparison.specs.declared.Difference.{Difference}
 use Rattle.comparison.specs.declared.Kernel.{Kernel}
 use Rattle.comparison.specs.declared.Comparison.{Comparison}
 use Rattle.compared.proofs.Complete.{no_difference_self}
@@ -59,16 +58,16 @@ unfolding walk_of
 walk_whole a h = rw (le-leb (length a) limit h)
 
 -- a walk that is not refused is of a kernel that is not too long
-not_long : (a : List ℕ) → refusal_of (walk_of a) ≡ none → length a ≤ limit
+not_long : (a : List ℕ) → refusal_of (walk_of a) ≡ None → length a ≤ limit
 unfolding walk_of
 not_long a e = go (leb (length a) limit) refl e
   where
-    go : (s : Bool) → leb (length a) limit ≡ s → refusal_of (cond s (walk_from (length a) 0 a) (refused 0 (refusal 1))) ≡ none → length a ≤ limit
+    go : (s : Bool) → leb (length a) limit ≡ s → refusal_of (cond s (walk_from (length a) 0 a) (refused 0 (refusal 1))) ≡ None → length a ≤ limit
     go true f e = leb-true (length a) limit f
     go false f e = let z : ◌≡◌ {A = ℕ} 0 1 = cc in absurd (omega arith)
 
 abbrev pub Ends : List ℕ → Type 0
-Ends code = refusal_of (walk_of code) ≡ none
+Ends code = refusal_of (walk_of code) ≡ None
 
 module _ (a b : List ℕ) where
   same_ends : Bytes a → Bytes b → length a ≤ limit → length b ≤ limit → (to : ℕ) → Together a b to → to ≡ length a → to ≡ length b
@@ -114,10 +113,11 @@ self_same a w = let h = not_long a w in let o = outcome a a h h in o.answer ∙ 
     at h to t (first_ended j m x y) = let l = y.0 in absurd (omega arith)
     at h to t (second_ended i n x y) = let l = x.0 in absurd (omega arith)
     at h to t (differ i n j m f x y d) =
-        let e : Decoded.Found i n ≡ Decoded.Found j m = sym x.1 ∙ y.1 in
-        let p : i ≡ j = cc in
-        let q : n ≡ m = cc in
-        let v : Difference.In f ≡ Difference.None = sym d ∙ ap₂ (λ (k : Instruction) (l : ℕ). difference_of i n k l) (sym p) (sym q) ∙ no_difference_self i n in
+        let e : ◌≡◌ {A = Decoded} (Ok (i, n)) (Ok (j, m)) = sym x.1 ∙ y.1 in
+        let pair : ◌≡◌ {A = Instruction × ℕ} (i, n) (j, m) = cc in
+        let p : i ≡ j = ap (λ (z : Instruction × ℕ). z.0) pair in
+        let q : n ≡ m = ap (λ (z : Instruction × ℕ). z.1) pair in
+        let v : Some f ≡ None = sym d ∙ ap₂ (λ (k : Instruction) (l : ℕ). difference_of i n k l) (sym p) (sym q) ∙ no_difference_self i n in
         let z : ◌≡◌ {A = ℕ} 0 1 = cc in
         absurd (omega arith)
 

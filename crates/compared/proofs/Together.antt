@@ -1,4 +1,5 @@
 -- Two walks side by side: how far they go together, and where they stop. What the comparison answers follows from what stands there.
+use Rattle.std.proofs.Common.{Ok, Err, Option, Some, None}
 use mathlib.Core.Path.{◌≡◌, refl, sym, ap, ap₂, ◌∙◌}
 use mathlib.Core.Bool.{Bool, true, false}
 use mathlib.Core.List.{List, ◌++◌}
@@ -11,7 +12,7 @@ use borrow.Author.Tests.{ltb-true, ltb-false, le-leb}
 use Rattle.bits.proofs.Laws.{Bytes, bytes_drop}
 use Rattle.isa.specs.Decode.{decode_of}
 use Rattle.isa.specs.declared.answer.Refusal.{Refusal}
-use Rattle.isa.specs.declared.answer.Decoded.{Decoded}
+use Rattle.isa.specs.Answer.{Decoded}
 use Rattle.isa.specs.declared.instruction.Instruction.{Instruction}
 use Rattle.isa.proofs.Found.{found-length}
 use Rattle.roundtrip.proofs.Back.{bytes_back}
@@ -20,7 +21,6 @@ use Rattle.walk.proofs.Steps.{step_by, walk_all, step-at}
 use Rattle.comparison.specs.Order.{difference_of}
 use Rattle.comparison.specs.Compare.{or_else, between, compare_of}
 use Rattle.comparison.specs.declared.Field.{Field}
-use Rattle.comparison.specs.declared.Difference.{Difference}
 use Rattle.comparison.specs.declared.Kernel.{Kernel}
 use Rattle.comparison.specs.declared.Comparison.{Comparison}
 use Rattle.compared.proofs.Complete.{no_difference, no_difference_self}
@@ -28,10 +28,10 @@ use Rattle.compared.proofs.Complete.{no_difference, no_difference_self}
 -- ---- what stands at an address of a code
 
 abbrev pub Finds : List ℕ → ℕ → Instruction → ℕ → Type 0
-Finds code at i n = (at < length code) × (decode_of (drop at code) ≡ Decoded.Found i n)
+Finds code at i n = (at < length code) × (decode_of (drop at code) ≡ Ok (i, n))
 
 abbrev pub Refuses : List ℕ → ℕ → Refusal → Type 0
-Refuses code at r = (at < length code) × (decode_of (drop at code) ≡ Decoded.Refused r)
+Refuses code at r = (at < length code) × (decode_of (drop at code) ≡ Err r)
 
 pub data Stands (code : List ℕ) (at : ℕ) : Type 0 where
   ends : at ≡ length code → Stands code at
@@ -42,8 +42,8 @@ pub stands : (code : List ℕ) (at : ℕ) → at ≤ length code → Stands code
 stands code at h = go (ltb at (length code)) refl (decode_of (drop at code)) refl
   where
     go : (t : Bool) → ltb at (length code) ≡ t → (d : Decoded) → decode_of (drop at code) ≡ d → Stands code at
-    go true e (Decoded.Found i n) f = finds i n (ltb-true at (length code) e, f)
-    go true e (Decoded.Refused r) f = refuses r (ltb-true at (length code) e, f)
+    go true e (Ok (i, n)) f = finds i n (ltb-true at (length code) e, f)
+    go true e (Err r) f = refuses r (ltb-true at (length code) e, f)
     go false e d f = ends (omega (arith, ltb-false at (length code) e))
 
 -- the walk that is left there
@@ -106,7 +106,7 @@ follows a b to (on _ at i n t f g e) =
     sym
     (ap₂ between (rest-finds a at i n f) (rest-finds b at i n g)
     ∙ ap₂ (λ (k l : ℕ). or_else (difference_of i k i l) at (between (rest a (at + n)) (rest b (at + n)))) x y
-    ∙ ap (λ (d : Difference). or_else d at (between (rest a (at + n)) (rest b (at + n)))) (no_difference_self i n)
+    ∙ ap (λ (d : Option Field). or_else d at (between (rest a (at + n)) (rest b (at + n)))) (no_difference_self i n)
     ∙ ap (λ (k : ℕ). between (rest a k) (rest b k)) (sym e))
     ∙ follows a b at t
 
@@ -119,7 +119,7 @@ pub data Stop (a b : List ℕ) (at : ℕ) : Type 0 where
   first_ended : (j : Instruction) (m : ℕ) → at ≡ length a → Finds b at j m → Stop a b at
   second_ended : (i : Instruction) (n : ℕ) → Finds a at i n → at ≡ length b → Stop a b at
   differ : (i : Instruction) (n : ℕ) (j : Instruction) (m : ℕ) (f : Field) → Finds a at i n → Finds b at j m
-      → difference_of i n j m ≡ Difference.In f → Stop a b at
+      → difference_of i n j m ≡ Some f → Stop a b at
 
 -- the answer there
 abbrev pub answer_at : (a b : List ℕ) (at : ℕ) → Stop a b at → Comparison
@@ -147,7 +147,7 @@ answer_at_lem a b at h (differ i n j m f x y d) =
     let l = (lies b at j m y).2 in
     ap₂ between (rest-finds a at i n x) (rest-finds b at j m y)
     ∙ ap₂ (λ (u v : ℕ). or_else (difference_of i u j v) at (between (rest a (at + n)) (rest b (at + m)))) k l
-    ∙ ap (λ (z : Difference). or_else z at (between (rest a (at + n)) (rest b (at + m)))) d
+    ∙ ap (λ (z : Option Field). or_else z at (between (rest a (at + n)) (rest b (at + m)))) d
 
 -- ---- they do stop
 
@@ -168,12 +168,12 @@ turn a b at t (finds i n f) (refuses r g) further =
 turn a b at t (finds i n f) (ends g) further = (at, t, second_ended i n f g)
 turn a b at t (finds i n f) (finds j m g) further = go (difference_of i n j m) refl
   where
-    go : (d : Difference) → difference_of i n j m ≡ d → Reached a b
-    go (Difference.In x) e = (at, t, differ i n j m x f g e)
-    go Difference.None e =
+    go : (d : Option Field) → difference_of i n j m ≡ d → Reached a b
+    go (Some x) e = (at, t, differ i n j m x f g e)
+    go None e =
         let same = no_difference i n j m e in
         let l = lies a at i n f in
-        let g' : Finds b at i n = (g.0, g.1 ∙ ap₂ Decoded.Found (sym same.0) (sym same.1)) in
+        let g' : Finds b at i n = (g.0, g.1 ∙ ap₂ (λ (k : Instruction) (l : ℕ). Ok (k, l)) (sym same.0) (sym same.1)) in
         further (at + n) (omega arith) l.1 (on (at + n) at i n t f g' refl)
 
 reaches : (k : ℕ) (a b : List ℕ) (at : ℕ) → Together a b at → length a ≤ k + at → Reached a b

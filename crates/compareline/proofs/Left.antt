@@ -1,9 +1,10 @@
 -- What the call answers and leaves where the text has room for the line, and where not.
+use Rattle.std.proofs.Common.{Some, None}
 use mathlib.Core.Path.{◌≡◌, refl, sym, ap, ◌∙◌}
 use mathlib.Core.List.{List, ◌++◌}
-use Prim.Native.Nat.{ℕ, ◌+◌, ◌≤◌, ◌<◌}
+use Prim.Native.Nat.{ℕ, ◌≤◌, ◌<◌}
 use native.Mathlib.Omega.{arith}
-use lib.ListN.{length, take, drop, length-take}
+use lib.ListN.{length, drop}
 use lib.Seq.{sets}
 use borrow.Author.Tests.{le-leb, lt-leb}
 use Rattle.isa.specs.Text.{ascii}
@@ -12,19 +13,15 @@ use Rattle.comparison.specs.AnswerLine.{at_address, written_of, line_left}
 use Rattle.bits.proofs.Pieces.{after, put_first}
 
 -- too little room
-pub no_room : (line old : List ℕ) → length old < length line → (0 ≡ written_of line (length old)) × (old ≡ line_left line old)
+pub no_room : (line old : List ℕ) → length old < length line → (None ≡ written_of line (length old)) × (old ≡ line_left line old)
 no_room line old h = let t = lt-leb (length line) (length old) h in (rw t, rw t)
 
 -- room, and the line put at the start
 pub room : (line old new : List ℕ) (n : ℕ) → length line ≡ n → n ≤ length old → new ≡ sets old 0 line
-    → (n ≡ written_of line (length old)) × (new ≡ line_left line old)
+    → (Some n ≡ written_of line (length old)) × (new ≡ line_left line old)
 room line old new n e h f =
     let t = le-leb (length line) (length old) (omega arith) in
     (rw (t, e), rw t (f ∙ put_first old line n e h ∙ ap (λ (k : ℕ). line ++ drop k old) (sym e)))
-
--- an address and words of n characters have n + 5
-pub length_at : (at : ℕ) (text : List ℕ) (n : ℕ) → n ≤ length text → length (at_address at (take n text)) ≡ 5 + n
-length_at at text n h = let e : length (take n text) ≡ n = rw length-take (omega arith) in omega arith
 
 -- an address, and then the words, put into a text
 pub put_both : (at : ℕ) (words old first new : List ℕ) → first ≡ sets old 0 (hex_address at ++ ascii " ") → new ≡ sets first 5 words

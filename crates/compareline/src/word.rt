@@ -1,80 +1,48 @@
-// The words of an answer after its address: the first `length` characters of a text of eleven.
+// The words of an answer after its address.
 ghost use Rattle.std.specs.Prelude.{◌≡◌, ◌<◌};
 ghost use Rattle.comparison.specs.AnswerLine.{word_of, kernel_number, ended_words, refused_words, Short};
 ghost use Rattle.comparison.specs.declared.Field.{Field};
 ghost use Rattle.digits.specs.Digits.{digit};
-ghost use Rattle.compareline.specs.Words.{Says};
 
 use comparison::{Field, Kernel};
 use isa::answer;
 use isa::answer::Refusal;
 
-#[derive(Clone, Copy)]
-pub struct Words {
-    pub text: [u8; 11],
-    pub length: usize,
-}
-
-fn of_other(bit: u8) -> Words
+fn of_other<'a>(bit: u8, room: &'a mut [u8; 8]) -> &'a [u8]
     requires { bit < 100 }
-    ensures { Says result (word_of (Field.Other bit)) }
+    ensures { result.now ≡ word_of (Field.Other bit) }
 {
-    let mut text = *b"field      ";
+    *room = *b"field 00";
     if bit < 10 {
-        text[6] = digits::hex_digit(bit);
-        Words { text, length: 7 }
+        room[6] = digits::hex_digit(bit);
+        &room[..7]
     } else {
-        text[6] = digits::hex_digit(bit / 10);
-        text[7] = digits::hex_digit(bit % 10);
-        Words { text, length: 8 }
+        room[6] = digits::hex_digit(bit / 10);
+        room[7] = digits::hex_digit(bit % 10);
+        room
     }
 }
 
-pub fn of_field(field: Field) -> Words
+// The number of another field is written into the room.
+pub fn of_field<'a>(field: Field, room: &'a mut [u8; 8]) -> &'a [u8]
     requires { Short field }
-    ensures { Says result (word_of field) }
+    ensures { result.now ≡ word_of field }
 {
     match field {
-        Field::Instruction => Words {
-            text: *b"instruction",
-            length: 11,
-        },
-        Field::Length => Words {
-            text: *b"length     ",
-            length: 6,
-        },
-        Field::Destination => Words {
-            text: *b"destination",
-            length: 11,
-        },
-        Field::SourceA => Words {
-            text: *b"source A   ",
-            length: 8,
-        },
-        Field::SourceB => Words {
-            text: *b"source B   ",
-            length: 8,
-        },
-        Field::SourceC => Words {
-            text: *b"source C   ",
-            length: 8,
-        },
-        Field::Immediate => Words {
-            text: *b"immediate  ",
-            length: 9,
-        },
-        Field::Other(bit) => of_other(bit),
-        Field::Hint => Words {
-            text: *b"hint       ",
-            length: 4,
-        },
-        Field::Bit => Words {
-            text: *b"bit        ",
-            length: 3,
-        },
+        Field::Instruction => b"instruction",
+        Field::Length => b"length",
+        Field::Destination => b"destination",
+        Field::SourceA => b"source A",
+        Field::SourceB => b"source B",
+        Field::SourceC => b"source C",
+        Field::Immediate => b"immediate",
+        Field::Other(bit) => of_other(bit, room),
+        Field::Hint => b"hint",
+        Field::Bit => b"bit",
     }
 }
 
+// A character of the line, and not a number of the kernel.
 fn kernel_digit(k: Kernel) -> u8
     ensures { result ≡ digit (kernel_number k) }
 {
@@ -84,19 +52,19 @@ fn kernel_digit(k: Kernel) -> u8
     }
 }
 
-pub fn of_ended(k: Kernel) -> Words
-    ensures { Says result (ended_words k) }
+pub fn of_ended(k: Kernel) -> [u8; 7]
+    ensures { result ≡ ended_words k }
 {
-    let mut text = *b"ended      ";
-    text[6] = kernel_digit(k);
-    Words { text, length: 7 }
+    let mut words = *b"ended 0";
+    words[6] = kernel_digit(k);
+    words
 }
 
-pub fn of_refused(r: Refusal, k: Kernel) -> Words
-    ensures { Says result (refused_words r k) }
+pub fn of_refused(r: Refusal, k: Kernel) -> [u8; 11]
+    ensures { result ≡ refused_words r k }
 {
-    let mut text = *b"refused    ";
-    text[8] = digits::hex_digit(answer::number(r));
-    text[10] = kernel_digit(k);
-    Words { text, length: 11 }
+    let mut words = *b"refused 0 0";
+    words[8] = digits::hex_digit(answer::number(r));
+    words[10] = kernel_digit(k);
+    words
 }

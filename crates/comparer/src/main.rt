@@ -37,7 +37,7 @@ fn compare_whole(first: &[u8], second: &[u8], text: &mut [u8]) -> usize
     ensures prefix_len { IsPrefixLen result text.new }
     ensures text_after { take result text.new ≡ line_of (compare_of first.now second.now) ++ ascii "\n" }
 {
-    let n = compare::compare_line(first, second, text);
+    let n = compare::compare_line(first, second, text).unwrap();
     text[n] = b'\n';
     n + 1
 }

@@ -1,5 +1,5 @@
 -- The line of a comparison's answer, without a line feed, as the change request "The two-kernel comparison" fixes it.
-use Rattle.std.specs.Prelude.{ℕ, ◌/◌, ◌%◌, ◌<◌, cond, List, [], ◌∷◌, ◌++◌, ltb, leb, length, drop}
+use Rattle.std.specs.Prelude.{ℕ, ◌/◌, ◌%◌, ◌<◌, cond, List, [], ◌∷◌, ◌++◌, ltb, leb, length, drop, Option, Some, None}
 use Rattle.isa.specs.Text.{ascii}
 use Rattle.isa.specs.Refusal.{number_of}
 use Rattle.isa.specs.declared.answer.Refusal.{Refusal}
@@ -48,8 +48,8 @@ line_of (Comparison.Refused at r k) = at_address at (refused_words r k)
 -- ---- the call: where the buffer is too short for the line, nothing is written
 
 -- the number of bytes written
-abbrev pub written_of : List ℕ → ℕ → ℕ
-written_of line room = cond (leb (length line) room) (length line) 0
+abbrev pub written_of : List ℕ → ℕ → Option ℕ
+written_of line room = cond (leb (length line) room) (Some (length line)) None
 
 -- the line at the start of what stood there
 abbrev pub line_left : List ℕ → List ℕ → List ℕ

@@ -1,17 +1,17 @@
 -- The comparison of two kernels: both are walked from address 0, side by side, until one walk is refused, one ends, or they differ.
 -- Follows the change request "The two-kernel comparison" and docs/DECISIONS.md, entry 73.
-use Rattle.std.specs.Prelude.{ℕ, cond, List, leb, length}
+use Rattle.std.specs.Prelude.{ℕ, cond, Option, Some, None, List, leb, length}
 use Rattle.isa.specs.Refusal.{refusal}
 use Rattle.walk.specs.Walk.{Walk, ended, refused, stepped, walk_of, limit}
 use Rattle.comparison.specs.Order.{difference_of}
-use Rattle.comparison.specs.declared.Difference.{Difference}
+use Rattle.comparison.specs.declared.Field.{Field}
 use Rattle.comparison.specs.declared.Kernel.{Kernel}
 use Rattle.comparison.specs.declared.Comparison.{Comparison}
 
 -- at an address, a difference is the answer; without one the walks go on
-abbrev pub or_else : Difference → ℕ → Comparison → Comparison
-or_else (Difference.In f) at further = Comparison.Differs at f
-or_else Difference.None at further = further
+abbrev pub or_else : Option Field → ℕ → Comparison → Comparison
+or_else (Some f) at further = Comparison.Differs at f
+or_else None at further = further
 
 -- the walk of the first kernel and that of the second. A refusal of either is the answer, the first kernel's if both are refused, even
 -- if the other has ended

@@ -1,7 +1,7 @@
 -- The fields of an instruction in the order in which two are compared, one list, and the first in which they differ. Follows the change
 -- request "The two-kernel comparison" and docs/DECISIONS.md, entries 71 and 72. A field is called by the names that it has in its
 -- diagram, and its lowest bit is looked up in the first diagram that has it.
-use Rattle.std.specs.Prelude.{ℕ, Bool, cond, List, [], ◌∷◌, ◌++◌, map, eqb}
+use Rattle.std.specs.Prelude.{ℕ, Bool, cond, Option, Some, None, List, [], ◌∷◌, ◌++◌, map, eqb}
 use Prim.Native.String.{String}
 use lib.Text.{eqt}
 use Rattle.bits.specs.Lists.{eq_list}
@@ -12,7 +12,6 @@ use Rattle.isa.specs.declared.parts.Slot.{Slot}
 use Rattle.isa.specs.declared.instruction.Instruction.{Instruction}
 use Rattle.encoding.specs.Write.{fields_for, number_in}
 use Rattle.comparison.specs.declared.Field.{Field}
-use Rattle.comparison.specs.declared.Difference.{Difference}
 
 -- ---- the lowest bit of a field
 
@@ -90,10 +89,10 @@ order =
 abbrev pub agrees : Entry → Instruction → ℕ → Instruction → ℕ → Bool
 agrees e i n j m = eq_list (e.numbers i n) (e.numbers j m)
 
-abbrev pub first_of : List Entry → Instruction → ℕ → Instruction → ℕ → Difference
-first_of [] i n j m = Difference.None
-first_of (e ∷ es) i n j m = cond (agrees e i n j m) (first_of es i n j m) (Difference.In e.called)
+abbrev pub first_of : List Entry → Instruction → ℕ → Instruction → ℕ → Option Field
+first_of [] i n j m = None
+first_of (e ∷ es) i n j m = cond (agrees e i n j m) (first_of es i n j m) (Some e.called)
 
 -- of the instruction i of n bytes and the instruction j of m bytes
-unfoldable pub difference_of : Instruction → ℕ → Instruction → ℕ → Difference
+unfoldable pub difference_of : Instruction → ℕ → Instruction → ℕ → Option Field
 difference_of i n j m = first_of order i n j m

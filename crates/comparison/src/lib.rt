@@ -18,13 +18,6 @@ pub enum Field {
     Bit,
 }
 
-// The first field in which two instructions differ, if they do.
-#[derive(Clone, Copy)]
-pub enum Difference {
-    None,
-    In(Field),
-}
-
 #[derive(Clone, Copy)]
 pub enum Kernel {
     First,
@@ -32,7 +25,7 @@ pub enum Kernel {
 }
 
 // What the comparison answers: the same; or the address and the field in which they differ, the kernel that ended there, or the
-// refusal and the kernel that it is of.
+// refusal and the kernel that it is of. Four ways to answer, so neither an Option nor a Result.
 #[derive(Clone, Copy)]
 pub enum Comparison {
     Same,

@@ -1,30 +1,27 @@
 // Decoding at an offset, with the instruction left in its byte form.
 #![tactic(auto)]
 
-ghost use Rattle.decodeat.specs.DecodeAt.{DecodesAt};
+ghost use Rattle.decodeat.specs.DecodeAt.{DecodesInto, DecodesAt};
 
 use answers::returned;
-use bits::piece;
-use decodeparts::{DecodedParts, decode_parts};
+use decodeparts::decode_parts;
 use isa::answer::Refusal;
 
-// The instruction at a byte of the code, in its byte form, and its length; below 0, minus a refusal's number. Refused, nothing is written;
-// room is needed only for a byte form that is to be written.
+// The instruction at a byte of the code, in its byte form, and its length; below 0, minus a refusal's number, as the C interface has it.
+// Refused, nothing is written; room is needed only for a byte form that is to be written.
 pub fn decode_at(code: &[u8], offset: usize, instruction: &mut [u8]) -> i32
     ensures { DecodesAt code.now offset instruction.old result instruction.new }
 {
-    if code.len() < offset {
-        return returned::refused(Refusal::BadSize);
-    }
-    match decode_parts(&code[offset..]) {
-        DecodedParts::Found(p, n) => {
-            if instruction.len() < 48 {
-                return returned::refused(Refusal::BadSize);
-            }
-            let form = form::of_parts(p);
-            piece::put(instruction, 0, &form);
-            returned::count(n)
-        }
-        DecodedParts::Refused(r) => returned::refused(r),
-    }
+    returned::encoded(decode_into(code, offset, instruction))
+}
+
+// The same, with its length as a number or the refusal.
+fn decode_into(code: &[u8], offset: usize, instruction: &mut [u8]) -> Result<usize, Refusal>
+    ensures { DecodesInto code.now offset instruction.old result instruction.new }
+{
+    let code = code.get(offset..).ok_or(Refusal::BadSize)?;
+    let (parts, n) = decode_parts(code)?;
+    let room = instruction.first_chunk_mut::<48>().ok_or(Refusal::BadSize)?;
+    *room = form::of_parts(parts);
+    Ok(n)
 }

@@ -1,14 +1,15 @@
 -- The first difference by the list of the definition is the one that the code's tests find, one after the other, in the parts of the
 -- two instructions; and where there is none, the lengths are equal.
 use mathlib.Core.Path.{◌≡◌, refl, sym, ap, ap₂, ◌∙◌}
+use Rattle.std.specs.Prelude.{Option, Some, None}
 use mathlib.Core.Bool.{Bool, true, false, cond, ◌&&◌}
 use mathlib.Core.List.{List, [], ◌∷◌, map}
-use Prim.Native.Nat.{ℕ, ◌+◌, ◌-◌, ◌/◌, ◌%◌, ◌<◌}
+use Prim.Native.Nat.{ℕ, ◌-◌, ◌/◌, ◌%◌, ◌<◌}
 use Prim.Native.String.{String}
 use native.Mathlib.Omega.{arith}
-use lib.Dec.{eqb, leb}
+use lib.Dec.{eqb}
 use lib.ListN.{get_or}
-use borrow.Author.Tests.{eqb-true, eq-eqb, ne_eqb, le-leb}
+use borrow.Author.Tests.{eqb-true, eq-eqb, ne_eqb}
 use Rattle.bits.specs.Lists.{eq_list}
 use Rattle.bits.proofs.Lists.{eq_list-is, eq_list_self}
 use Rattle.isa.specs.Rows.{rows}
@@ -20,9 +21,7 @@ use Rattle.isa.proofs.Placed.{kind_within}
 use Rattle.encoding.specs.Write.{fields_for}
 use Rattle.comparison.specs.Order.{Entry, others, order, agrees, first_of, difference_of, fields_of, named}
 use Rattle.comparison.specs.declared.Field.{Field}
-use Rattle.comparison.specs.declared.Difference.{Difference}
-use Rattle.difference.specs.First.{from_number, or_in, same_operand, number_for, by_form, by_operands, by_number}
-use Rattle.difference.specs.First.{by_signs, by_truth, by_condition, by_fields, by_hints, first_by}
+use Rattle.difference.specs.First.{◌or◌, unless, same_operand, number_for, first_by}
 
 -- ---- the fields of an instruction are in its parts
 
@@ -41,16 +40,12 @@ shift_fields x = x / 2 ∷ x % 2 ∷ []
 abbrev pub mFields : ℕ → List ℕ
 mFields x = x / 16 ∷ x / 4 % 4 ∷ x % 4 ∷ []
 
--- the number of mov16, mov32, get_sr or a jump
-abbrev pub kind_number : ℕ → ℕ → Parts → ℕ
-kind_number low high p = number_for low high p.kind p.immediate
-
 abbrev pub told : Parts → List ℕ
 told p =
-    p.l ∷ kind_number 1 1 p ∷ kind_number 2 2 p ∷ kind_number 3 3 p / 64 ∷ kind_number 3 3 p % 64
+    p.l ∷ number_for 1 1 p ∷ number_for 2 2 p ∷ number_for 3 3 p / 64 ∷ number_for 3 3 p % 64
     ∷ p.signs.saturate ∷ p.signs.sa ∷ p.signs.negate ∷ p.signs.sb ∷ p.signs.shift / 2 ∷ p.signs.shift % 2 ∷ p.signs.sc
     ∷ p.m / 16 ∷ p.m / 4 % 4 ∷ p.m % 4 ∷ p.truth.tt0 ∷ p.truth.tt1 ∷ p.truth.tt2 ∷ p.truth.tt3
-    ∷ kind_number 17 18 p ∷ p.condition.ccn ∷ p.condition.n ∷ p.condition.cc ∷ []
+    ∷ number_for 17 18 p ∷ p.condition.ccn ∷ p.condition.n ∷ p.condition.cc ∷ []
 
 pub in_parts : (i : Instruction) → fields_of names i ≡ told (parts_of i)
 unfolding fields_for parts_of
@@ -77,76 +72,38 @@ in_parts (Instruction.IfIcmp x) = refl
 in_parts (Instruction.WhileIcmp x) = refl
 in_parts (Instruction.ElseIcmp x) = refl
 
--- ---- the number of a field
-
-to_number : Field → ℕ
-to_number Field.Instruction = 1
-to_number Field.Length = 2
-to_number Field.Destination = 3
-to_number Field.SourceA = 4
-to_number Field.SourceB = 5
-to_number Field.SourceC = 6
-to_number Field.Immediate = 7
-to_number (Field.Other bit) = 10 + bit
-to_number Field.Hint = 8
-to_number Field.Bit = 9
-
-there_back : (f : Field) → from_number (to_number f) ≡ Difference.In f
-unfolding to_number
-there_back Field.Instruction = refl
-there_back Field.Length = refl
-there_back Field.Destination = refl
-there_back Field.SourceA = refl
-there_back Field.SourceB = refl
-there_back Field.SourceC = refl
-there_back Field.Immediate = refl
-there_back (Field.Other bit) =
-    let e : 10 + bit - 10 ≡ bit = omega arith in
-    rw (le-leb 10 (10 + bit) (omega arith), e)
-there_back Field.Hint = refl
-there_back Field.Bit = refl
-
-not_none : (k : ℕ) (f : Field) → from_number k ≡ Difference.In f → k ≡ 0 → ⊥
-not_none k f e z =
-    let w : from_number 0 ≡ Difference.In f = ap from_number (sym z) ∙ e in
-    let v : ◌≡◌ {A = ℕ} 0 1 = cc in
-    omega arith
-
 -- ---- tests one after the other
 
 record Test : Type 0 where
   same : Bool
-  field : ℕ
+  field : Field
 
-abbrev test : Bool → ℕ → Test
+abbrev test : Bool → Field → Test
 test s f = record { same = s; field = f }
 
-tests : ℕ → List Test → ℕ
-tests d [] = d
-tests d (t ∷ ts) = tests (or_in d t.same t.field) ts
-
-stays : (k : ℕ) (ts : List Test) → (k ≡ 0 → ⊥) → tests k ts ≡ k
-unfolding tests or_in
-stays k [] h = refl
-stays k (t ∷ ts) h = rw (ne_eqb k 0 h) (stays k ts h)
+tests : List Test → Option Field
+tests [] = None
+tests (t ∷ ts) = cond t.same (tests ts) (Some t.field)
 
 -- the list of the definition, as tests
 test_of : Instruction → ℕ → Instruction → ℕ → Entry → Test
-test_of i n j m e = test (agrees e i n j m) (to_number e.called)
-
-first_step : (s : Bool) (f : Field) (d : Difference) (ts : List Test) → d ≡ from_number (tests 0 ts)
-    → cond s d (Difference.In f) ≡ from_number (tests 0 (test s (to_number f) ∷ ts))
-unfolding tests or_in
-first_step true f d ts e = e
-first_step false f d ts e =
-    sym (ap from_number (stays (to_number f) ts (not_none (to_number f) f (there_back f))) ∙ there_back f)
+test_of i n j m e = test (agrees e i n j m) e.called
 
 first_tests : (es : List Entry) (i : Instruction) (n : ℕ) (j : Instruction) (m : ℕ)
-    → first_of es i n j m ≡ from_number (tests 0 (map (test_of i n j m) es))
+    → first_of es i n j m ≡ tests (map (test_of i n j m) es)
 unfolding test_of tests
 first_tests [] i n j m = refl
 first_tests (e ∷ es) i n j m =
-    first_step (agrees e i n j m) e.called (first_of es i n j m) (map (test_of i n j m) es) (first_tests es i n j m)
+    ap (λ (d : Option Field). cond (agrees e i n j m) d (Some e.called)) (first_tests es i n j m)
+
+-- what is found first, by a test and then the others
+before : (s : Bool) (f : Field) (d : Option Field) → (unless s f or d) ≡ cond s d (Some f)
+before true f d = refl
+before false f d = refl
+
+grouped : (d e g : Option Field) → (d or e or g) ≡ (d or (e or g))
+grouped None e g = refl
+grouped (Some f) e g = refl
 
 -- ---- a test of the list is a test of the code
 
@@ -154,7 +111,7 @@ one : (s : Bool) → (s && true) ≡ s
 one true = refl
 one false = refl
 
-pair : (s t : Bool) → (s && (t && true)) ≡ cond s t false
+pair : (s t : Bool) → (s && (t && true)) ≡ (s && t)
 pair true t = one t
 pair false t = refl
 
@@ -201,45 +158,30 @@ by_m =
 -- ---- two lists of tests that find the same
 
 record ◌≈◌ (ts us : List Test) : Type 0 where
-  finds : (d : ℕ) → tests d ts ≡ tests d us
+  finds : tests ts ≡ tests us
 
 infix 20 ◌≈◌
 end : [] ≈ []
-end = record { finds = λ d. refl }
+end = record { finds = refl }
 
 infixr 30 ◌then◌
-◌then◌ : {s t : Bool} {f : ℕ} {ts us : List Test} → s ≡ t → ts ≈ us → (test s f ∷ ts) ≈ (test t f ∷ us)
+◌then◌ : {s t : Bool} {f : Field} {ts us : List Test} → s ≡ t → ts ≈ us → (test s f ∷ ts) ≈ (test t f ∷ us)
 unfolding tests
-◌then◌ {t = t} {f = f} {ts = ts} e h =
-    record { finds = λ d. ap (λ (x : Bool). tests (or_in d x f) ts) e ∙ h.finds (or_in d t f) }
+◌then◌ {f = f} e h = record { finds = ap₂ (λ (x : Bool) (d : Option Field). cond x d (Some f)) e h.finds }
 
 -- a test that is two
-idle : (k : ℕ) (t : Bool) → k ≡ cond (eqb k 0) (cond t 0 k) k
-idle k t = go (eqb k 0) refl t
-  where
-    go : (z : Bool) → eqb k 0 ≡ z → (t : Bool) → k ≡ cond z (cond t 0 k) k
-    go true e true = eqb-true k 0 e
-    go true e false = refl
-    go false e t = refl
-
-merge_in : (d : ℕ) (s t : Bool) (f : ℕ) → or_in d (s && t) f ≡ or_in (or_in d s f) t f
-unfolding or_in
-merge_in d s t f = go (eqb d 0) refl s
-  where
-    go : (z : Bool) → eqb d 0 ≡ z → (s : Bool)
-        → cond z (cond (s && t) 0 f) d ≡ cond (eqb (cond z (cond s 0 f) d) 0) (cond t 0 f) (cond z (cond s 0 f) d)
-    go true e true = refl
-    go true e false = idle f t
-    go false e s = rw e
+two : (s t : Bool) (f : Field) (d : Option Field) → cond (s && t) d (Some f) ≡ cond s (cond t d (Some f)) (Some f)
+two true t f d = refl
+two false t f d = refl
 
 infixr 30 ◌both◌
-◌both◌ : {r s t : Bool} {f : ℕ} {ts us : List Test} → r ≡ (s && t) → (test t f ∷ ts) ≈ us → (test r f ∷ ts) ≈ (test s f ∷ us)
+◌both◌ : {r s t : Bool} {f : Field} {ts us : List Test} → r ≡ (s && t) → (test t f ∷ ts) ≈ us → (test r f ∷ ts) ≈ (test s f ∷ us)
 unfolding tests
 ◌both◌ {s = s} {t = t} {f = f} {ts = ts} e h =
     record {
       finds =
-          λ d.
-          ap (λ (x : Bool). tests (or_in d x f) ts) e ∙ ap (λ (x : ℕ). tests x ts) (merge_in d s t f) ∙ h.finds (or_in d s f);
+          ap (λ (x : Bool). cond x (tests ts) (Some f)) e ∙ two s t f (tests ts)
+          ∙ ap (λ (d : Option Field). cond s d (Some f)) h.finds;
     }
 
 -- ---- the tests of the definition and those of the code
@@ -250,67 +192,67 @@ hints p = p.d.hint ∷ p.a.hint ∷ p.b.hint ∷ p.c.hint ∷ []
 -- with the fields by their names
 list_tests : List ℕ → Parts → ℕ → List ℕ → Parts → ℕ → List Test
 list_tests xs p n ys q m =
-    test (eq_list ((p.kind - 1) ∷ []) ((q.kind - 1) ∷ [])) 1
-    ∷ test (eq_list (n ∷ nth 0 xs ∷ []) (m ∷ nth 0 ys ∷ [])) 2
-    ∷ test (eq_list (named p.d) (named q.d)) 3
-    ∷ test (eq_list (named p.a) (named q.a)) 4
-    ∷ test (eq_list (named p.b) (named q.b)) 5
-    ∷ test (eq_list (named p.c) (named q.c)) 6
-    ∷ test (eq_list (nth 1 xs ∷ nth 2 xs ∷ []) (nth 1 ys ∷ nth 2 ys ∷ [])) 7
-    ∷ test (eq_list (nth 3 xs ∷ nth 4 xs ∷ []) (nth 3 ys ∷ nth 4 ys ∷ [])) 26
+    test (eq_list ((p.kind - 1) ∷ []) ((q.kind - 1) ∷ [])) Field.Instruction
+    ∷ test (eq_list (n ∷ nth 0 xs ∷ []) (m ∷ nth 0 ys ∷ [])) Field.Length
+    ∷ test (eq_list (named p.d) (named q.d)) Field.Destination
+    ∷ test (eq_list (named p.a) (named q.a)) Field.SourceA
+    ∷ test (eq_list (named p.b) (named q.b)) Field.SourceB
+    ∷ test (eq_list (named p.c) (named q.c)) Field.SourceC
+    ∷ test (eq_list (nth 1 xs ∷ nth 2 xs ∷ []) (nth 1 ys ∷ nth 2 ys ∷ [])) Field.Immediate
+    ∷ test (eq_list (nth 3 xs ∷ nth 4 xs ∷ []) (nth 3 ys ∷ nth 4 ys ∷ [])) (Field.Other 16)
     ∷ at 5 6 ∷ at 6 26 ∷ at 7 27 ∷ at 8 38
-    ∷ test (eq_list (nth 9 xs ∷ nth 10 xs ∷ []) (nth 9 ys ∷ nth 10 ys ∷ [])) 49
+    ∷ test (eq_list (nth 9 xs ∷ nth 10 xs ∷ []) (nth 9 ys ∷ nth 10 ys ∷ [])) (Field.Other 39)
     ∷ at 11 50
-    ∷ test (eq_list (nth 12 xs ∷ nth 13 xs ∷ nth 14 xs ∷ []) (nth 12 ys ∷ nth 13 ys ∷ nth 14 ys ∷ [])) 48
+    ∷ test (eq_list (nth 12 xs ∷ nth 13 xs ∷ nth 14 xs ∷ []) (nth 12 ys ∷ nth 13 ys ∷ nth 14 ys ∷ [])) (Field.Other 38)
     ∷ at 15 26 ∷ at 16 27 ∷ at 17 38 ∷ at 18 39 ∷ at 19 16 ∷ at 20 8 ∷ at 21 11 ∷ at 22 13
-    ∷ test (eq_list (hints p) (hints q)) 8
-    ∷ test (eq_list (p.kept ∷ []) (q.kept ∷ [])) 9
+    ∷ test (eq_list (hints p) (hints q)) Field.Hint
+    ∷ test (eq_list (p.kept ∷ []) (q.kept ∷ [])) Field.Bit
     ∷ []
   where
     at : ℕ → ℕ → Test
-    at k bit = test (eq_list (nth k xs ∷ []) (nth k ys ∷ [])) (10 + bit)
+    at k bit = test (eq_list (nth k xs ∷ []) (nth k ys ∷ [])) (Field.Other bit)
 
 code_tests : Parts → ℕ → Parts → ℕ → List Test
 code_tests p n q m =
-    test (eqb p.kind q.kind) 1
-    ∷ test (eqb n m) 2
-    ∷ test (eqb p.l q.l) 2
-    ∷ test (same_operand p.d q.d) 3
-    ∷ test (same_operand p.a q.a) 4
-    ∷ test (same_operand p.b q.b) 5
-    ∷ test (same_operand p.c q.c) 6
-    ∷ test (eqb (kind_number 1 1 p) (kind_number 1 1 q)) 7
-    ∷ test (eqb (kind_number 2 2 p) (kind_number 2 2 q)) 7
-    ∷ test (eqb (kind_number 3 3 p) (kind_number 3 3 q)) 26
-    ∷ test (eqb p.signs.saturate q.signs.saturate) 16
-    ∷ test (eqb p.signs.sa q.signs.sa) 36
-    ∷ test (eqb p.signs.negate q.signs.negate) 37
-    ∷ test (eqb p.signs.sb q.signs.sb) 48
-    ∷ test (eqb p.signs.shift q.signs.shift) 49
-    ∷ test (eqb p.signs.sc q.signs.sc) 60
-    ∷ test (eqb p.m q.m) 48
-    ∷ test (eqb p.truth.tt0 q.truth.tt0) 36
-    ∷ test (eqb p.truth.tt1 q.truth.tt1) 37
-    ∷ test (eqb p.truth.tt2 q.truth.tt2) 48
-    ∷ test (eqb p.truth.tt3 q.truth.tt3) 49
-    ∷ test (eqb (kind_number 17 18 p) (kind_number 17 18 q)) 26
-    ∷ test (eqb p.condition.ccn q.condition.ccn) 18
-    ∷ test (eqb p.condition.n q.condition.n) 21
-    ∷ test (eqb p.condition.cc q.condition.cc) 23
-    ∷ test (eqb p.d.hint q.d.hint) 8
-    ∷ test (eqb p.a.hint q.a.hint) 8
-    ∷ test (eqb p.b.hint q.b.hint) 8
-    ∷ test (eqb p.c.hint q.c.hint) 8
-    ∷ test (eqb p.kept q.kept) 9
+    test (eqb p.kind q.kind) Field.Instruction
+    ∷ test (eqb n m) Field.Length
+    ∷ test (eqb p.l q.l) Field.Length
+    ∷ test (same_operand p.d q.d) Field.Destination
+    ∷ test (same_operand p.a q.a) Field.SourceA
+    ∷ test (same_operand p.b q.b) Field.SourceB
+    ∷ test (same_operand p.c q.c) Field.SourceC
+    ∷ test (eqb (number_for 1 1 p) (number_for 1 1 q)) Field.Immediate
+    ∷ test (eqb (number_for 2 2 p) (number_for 2 2 q)) Field.Immediate
+    ∷ test (eqb (number_for 3 3 p) (number_for 3 3 q)) (Field.Other 16)
+    ∷ test (eqb p.signs.saturate q.signs.saturate) (Field.Other 6)
+    ∷ test (eqb p.signs.sa q.signs.sa) (Field.Other 26)
+    ∷ test (eqb p.signs.negate q.signs.negate) (Field.Other 27)
+    ∷ test (eqb p.signs.sb q.signs.sb) (Field.Other 38)
+    ∷ test (eqb p.signs.shift q.signs.shift) (Field.Other 39)
+    ∷ test (eqb p.signs.sc q.signs.sc) (Field.Other 50)
+    ∷ test (eqb p.m q.m) (Field.Other 38)
+    ∷ test (eqb p.truth.tt0 q.truth.tt0) (Field.Other 26)
+    ∷ test (eqb p.truth.tt1 q.truth.tt1) (Field.Other 27)
+    ∷ test (eqb p.truth.tt2 q.truth.tt2) (Field.Other 38)
+    ∷ test (eqb p.truth.tt3 q.truth.tt3) (Field.Other 39)
+    ∷ test (eqb (number_for 17 18 p) (number_for 17 18 q)) (Field.Other 16)
+    ∷ test (eqb p.condition.ccn q.condition.ccn) (Field.Other 8)
+    ∷ test (eqb p.condition.n q.condition.n) (Field.Other 11)
+    ∷ test (eqb p.condition.cc q.condition.cc) (Field.Other 13)
+    ∷ test (eqb p.d.hint q.d.hint) Field.Hint
+    ∷ test (eqb p.a.hint q.a.hint) Field.Hint
+    ∷ test (eqb p.b.hint q.b.hint) Field.Hint
+    ∷ test (eqb p.c.hint q.c.hint) Field.Hint
+    ∷ test (eqb p.kept q.kept) Field.Bit
     ∷ []
 
-by_code : (p : Parts) (n : ℕ) (q : Parts) (m : ℕ) → from_number (tests 0 (code_tests p n q m)) ≡ first_by p n q m
-unfolding tests code_tests first_by by_form by_operands by_number by_signs by_truth by_condition by_fields by_hints
-by_code p n q m = refl
+by_code : (p : Parts) (n : ℕ) (q : Parts) (m : ℕ) → first_by p n q m ≡ tests (code_tests p n q m)
+unfolding tests code_tests
+by_code p n q m = simp grouped (simp before)
 
 by_list : (i : Instruction) (n : ℕ) (j : Instruction) (m : ℕ)
     → map (test_of i n j m) order ≡ list_tests (fields_of names i) (parts_of i) n (fields_of names j) (parts_of j) m
-unfolding rows others order test_of to_number list_tests
+unfolding rows others order test_of list_tests
 by_list i n j m = refl
 
 -- kinds count from 1
@@ -338,7 +280,7 @@ list_code p n q m h g =
     then operand p.b q.b
     then operand p.c q.c
     then refl both one _
-    then by_sr (kind_number 3 3 p) (kind_number 3 3 q)
+    then by_sr (number_for 3 3 p) (number_for 3 3 q)
     then one _ then one _ then one _ then one _
     then by-shift p.signs.shift q.signs.shift
     then one _
@@ -357,57 +299,16 @@ difference_by-parts i n j m =
     let p = parts_of i in
     let q = parts_of j in
     let l = by_list i n j m ∙ ap₂ (λ (xs ys : List ℕ). list_tests xs p n ys q m) (in_parts i) (in_parts j) in
-    let c = (list_code p n q m (kind_within i).0 (kind_within j).0).finds 0 in
-    first_tests order i n j m ∙ ap from_number (ap (tests 0) l ∙ c) ∙ by_code p n q m
+    let c = (list_code p n q m (kind_within i).0 (kind_within j).0).finds in
+    first_tests order i n j m ∙ ap tests l ∙ c ∙ sym (by_code p n q m)
 
-agreed_in : (d : ℕ) (s : Bool) (f : ℕ) → 0 < f → or_in d s f ≡ 0 → (d ≡ 0) × (s ≡ true)
-unfolding or_in
-agreed_in d s f h e = go (eqb d 0) refl s e
-  where
-    go : (z : Bool) → eqb d 0 ≡ z → (s : Bool) → cond z (cond s 0 f) d ≡ 0 → (d ≡ 0) × (s ≡ true)
-    go true g true e = (eqb-true d 0 g, refl)
-    go true g false e = absurd (omega arith)
-    go false g s e = let w : false ≡ true = sym g ∙ eq-eqb d 0 e in let v : ◌≡◌ {A = ℕ} 0 1 = cc in absurd (omega arith)
+-- a test that finds nothing, and what follows
+agreed_in : (s : Bool) (f : Field) (d : Option Field) → cond s d (Some f) ≡ None → (s ≡ true) × (d ≡ None)
+agreed_in true f d e = (refl, e)
+agreed_in false f d e = absurd (cc)
 
-agreed_tests : (d : ℕ) (ts : List Test) → tests d ts ≡ 0 → d ≡ 0
-agreed_tests d ts e = go (eqb d 0) refl
-  where
-    go : (z : Bool) → eqb d 0 ≡ z → d ≡ 0
-    go true g = eqb-true d 0 g
-    go false g =
-        sym (stays d ts (λ (h : d ≡ 0). let w : false ≡ true = sym g ∙ eq-eqb d 0 h in let v : ◌≡◌ {A = ℕ} 0 1 = cc in omega arith)) ∙ e
-
--- a number that is not 0 is a field's
-abbrev Some : Difference → Type 0
-Some d = d ≡ Difference.None → ⊥
-
-some_in : (f : Field) → Some (Difference.In f)
-some_in f e = let v : ◌≡◌ {A = ℕ} 0 1 = cc in omega arith
-
-or_some : (b : Bool) (f : Field) {d : Difference} → Some d → Some (cond b (Difference.In f) d)
-or_some true f h = some_in f
-or_some false f h = h
-
-none-zero : (k : ℕ) → from_number k ≡ Difference.None → k ≡ 0
-none-zero k e = go (eqb k 0) refl
-  where
-    go : (z : Bool) → eqb k 0 ≡ z → k ≡ 0
-    go true g = eqb-true k 0 g
-    go false g =
-        absurd
-        (or_some (leb 10 k) _
-        (or_some (eqb k 1) _ (or_some (eqb k 2) _ (or_some (eqb k 3) _ (or_some (eqb k 4) _ (or_some (eqb k 5) _
-        (or_some (eqb k 6) _ (or_some (eqb k 7) _ (or_some (eqb k 8) _ (some_in Field.Bit)))))))))
-        (rw g at e))
-
-abbrev tail : List Test → List Test
-tail [] = []
-tail (t ∷ ts) = ts
-
-pub agreed_lengths : (p : Parts) (n : ℕ) (q : Parts) (m : ℕ) → first_by p n q m ≡ Difference.None → n ≡ m
+pub agreed_lengths : (p : Parts) (n : ℕ) (q : Parts) (m : ℕ) → first_by p n q m ≡ None → n ≡ m
 unfolding tests code_tests
 agreed_lengths p n q m e =
-    let d = or_in 0 (eqb p.kind q.kind) 1 in
-    let ts = tail (tail (code_tests p n q m)) in
-    let z = none-zero (tests 0 (code_tests p n q m)) (by_code p n q m ∙ e) in
-    eqb-true n m (agreed_in d (eqb n m) 2 (omega arith) (agreed_tests (or_in d (eqb n m) 2) ts z)).1
+    let z : tests (code_tests p n q m) ≡ None = sym (by_code p n q m) ∙ e in
+    eqb-true n m (agreed_in _ _ _ (agreed_in _ _ _ z).1).0

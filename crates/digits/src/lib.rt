@@ -10,9 +10,10 @@ pub fn hex_digit(n: u8) -> u8
     requires { n < 16 }
     ensures { result ≡ digit n }
 {
-    if n < 10 { n + 48 } else { n + 55 }
+    if n < 10 { b'0' + n } else { b'A' + (n - 10) }
 }
 
+// A place in a lent buffer, since the caller lends all the room at once: no heap, and `sets` in the clause is of the whole buffer.
 pub fn put_byte(text: &mut [u8], n: usize, b: u8)
     requires { n + 2 ≤ length text.old }
     ensures { text.new ≡ sets text.old n (hex_byte b) }
@@ -25,10 +26,8 @@ pub fn put_bytes(text: &mut [u8], n: usize, bytes: &[u8])
     requires { n + 2 * length bytes.now ≤ length text.old }
     ensures { text.new ≡ sets text.old n (hex_bytes bytes.now) }
 {
-    let mut i = 0;
-    while i < bytes.len() {
-        put_byte(text, n + 2 * i, bytes[i]);
-        i += 1;
+    for (i, b) in bytes.iter().enumerate() {
+        put_byte(text, n + 2 * i, *b);
     }
 }
 
@@ -37,7 +36,6 @@ pub fn put_address(text: &mut [u8], n: usize, at: usize)
     requires { (n + 5 ≤ length text.old) × (at < 65536) }
     ensures { text.new ≡ sets text.old n (hex_address at ++ ascii " ") }
 {
-    put_byte(text, n, (at / 256) as u8);
-    put_byte(text, n + 2, (at % 256) as u8);
+    put_bytes(text, n, &(at as u16).to_be_bytes());
     text[n + 4] = b' ';
 }

@@ -26,7 +26,8 @@ use Rattle.lanes.specs.Sources.{row_over, gather_over, InSize, Bounded}
 use Rattle.lanes.specs.Results.{store_lane, zero_at}
 use Rattle.lanes.proofs.Columns.{write_all_lem, mask-registers, mask_bits}
 use Rattle.effect.specs.Acted.{Masked}
-use Rattle.effect.specs.Rows.{Rows, rows, Fit, worked_on, rows_for, rows_after}
+use Rattle.effect.specs.Rows.{worked_on}
+use Rattle.effect.specs.declared.Rows.{Rows}
 
 below : (x : Input) (row : List ℕ) (size : ℕ) → Fits x size → InSize x row → Within row size
 below x row size f n t h = lt_of_lt_of_le (n f.there t h) (pow_mono f.narrow)
@@ -68,11 +69,12 @@ module _ (o : Operation) (tables : Tables) (registers : List ℕ) (x y z : Input
   computed = v ∙ ap (λ (s : List (List ℕ)). tab 32 (result_at o s)) g ∙ results_over tables registers o x y z sources f
 
   -- the rows, whatever stood for results
-  pub rows_left_lem : (before : List ℕ) → rows left values ≡ worked_on o tables registers x y z (rows sources before)
+  pub rows_left_lem : (before : List ℕ)
+      → ◌≡◌ {A = Rows} (record { sources = left; values = values }) (worked_on o tables registers x y z (record { sources = sources; values = before }))
   unfolding worked_on
   rows_left_lem before =
       let w : values ≡ tab 32 (result_at o (gather_over tables registers x y z sources)) = v ∙ ap (λ (s : List (List ℕ)). tab 32 (result_at o s)) g in
-      λ i. rows (g i) (w i)
+      λ i. record { sources = g i; values = w i }
 
   -- a data instruction
   pub stored : (d : Destination) (mask : ℕ) (after : List ℕ) → after ≡ each 32 (store_lane values mask d) registers
@@ -89,18 +91,3 @@ module _ (o : Operation) (tables : Tables) (registers : List ℕ) (x y z : Input
       let e : after ≡ (mask_all (result_by o) s registers marks).registers = l ∙ mask-registers (result_by o) s values computed registers marks in
       let b : mask ≡ (mask_all (result_by o) s registers marks).mask = m ∙ mask_bits (result_by o) s values computed registers marks in
       λ i. threads_at (e i) marks (b i)
-
--- ---- the rows keep their sizes
-
-worked_fit : (o : Operation) (tables : Tables) (registers : List ℕ) (x y z : Input) (r : Rows) → Fit (worked_on o tables registers x y z r)
-unfolding worked_on gather_over
-worked_fit o tables registers x y z r = record { three = refl; all = length-tab 32 (result_at o (gather_over tables registers x y z r.sources)) }
-
-pub rows_fit : (x : Action) (tables : Tables) (registers : List ℕ) (r : Rows) → Fit r → Fit (rows_after x tables registers r)
-rows_fit x tables registers r f = go x.kind
-  where
-    go : (k : Kind) → Fit (rows_for k x.a x.b x.c x.operation tables registers r)
-    go Kind.Writes = worked_fit x.operation tables registers _ _ _ r
-    go Kind.Masks = worked_fit x.operation tables registers _ _ _ r
-    go Kind.JumpsIfAny = f
-    go Kind.JumpsIfNone = f

@@ -1,5 +1,5 @@
--- The rows that a step works in: its sources, gathered, and the results. They stand until those of a later step take their place.
-use Rattle.std.specs.Prelude.{ℕ, ◌≡◌, List, length}
+-- What stands in the rows after a step. They stand until those of a later step take their place.
+use Rattle.std.specs.Prelude.{ℕ, List}
 use Rattle.machine.specs.Lanes.{tab}
 use Rattle.machine.specs.Words.{Tables}
 use Rattle.machine.specs.Step.{own_r0l}
@@ -9,24 +9,13 @@ use Rattle.operations.specs.declared.action.Kind.{Kind}
 use Rattle.operations.specs.declared.action.Action.{Action}
 use Rattle.alu.specs.Results.{result_at}
 use Rattle.lanes.specs.Sources.{gather_over}
-
-pub record Rows : Type 0 where
-  pub sources : List (List ℕ)
-  pub values : List ℕ
-
-abbrev pub rows : List (List ℕ) → List ℕ → Rows
-rows sources values = record { sources = sources; values = values }
-
--- three sources, and a result for each thread
-pub record Fit (r : Rows) : Type 0 where
-  pub three : length r.sources ≡ 3
-  pub all : length r.values ≡ 32
+use Rattle.effect.specs.declared.Rows.{Rows}
 
 -- after an operation on three sources
 unfoldable pub worked_on : Operation → Tables → List ℕ → Input → Input → Input → Rows → Rows
 worked_on o tables registers a b c r =
     let sources = gather_over tables registers a b c r.sources in
-    rows sources (tab 32 (result_at o sources))
+    record { sources = sources; values = tab 32 (result_at o sources) }
 
 abbrev pub rows_for : Kind → Input → Input → Input → Operation → Tables → List ℕ → Rows → Rows
 rows_for Kind.Writes a b c o tables registers r = worked_on o tables registers a b c r

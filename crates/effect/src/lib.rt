@@ -1,5 +1,5 @@
-// What an accepted instruction does to registers and mask; what it does to the marks stands in crate marks. All sources of all threads are read before any thread is written. The rows of
-// sources and results are lent, so that they are made once for many steps.
+// What an accepted instruction does to registers and mask; what it does to the marks stands in crate marks. All sources of all threads are
+// read before any thread is written.
 #![tactic(auto)]
 
 ghost use Rattle.std.specs.Prelude.{◌≡◌, ◌*◌, ◌≤◌, length};
@@ -7,110 +7,95 @@ ghost use Rattle.machine.specs.Words.{destination_reach};
 ghost use Rattle.machine.specs.Step.{gather_of, own_r0l, write_all, registers_reach, specials_reach};
 ghost use Rattle.operations.specs.Operation.{result_by};
 ghost use Rattle.operations.specs.Action.{meaning_by, Fitting, FittingBy};
-ghost use Rattle.lanes.specs.Sources.{lent, Reached};
-ghost use Rattle.effect.specs.Rows.{rows, Fit, worked_on, rows_after};
+ghost use Rattle.lanes.specs.Sources.{Reached};
+ghost use Rattle.effect.specs.Tables.{tables_of};
+ghost use Rattle.effect.specs.Rows.{worked_on, rows_after};
 ghost use Rattle.effect.specs.Acted.{Masked, Acted};
 
 use isa::operand::{Destination, Hint, Source, Src};
 use machine::input::Input;
-use operations::Operation;
 use operations::action::{Action, Kind};
 
-fn write(
-    d: Destination,
-    a: Input,
-    b: Input,
-    c: Input,
-    operation: Operation,
-    registers: &mut [u32],
-    uniforms: &[u32],
-    specials: &[u32],
-    mask: u32,
-    sources: &mut [[u64; 32]; 3],
-    values: &mut [u64; 32],
-)
-    requires { Fitting operation a b c × (32 * destination_reach d ≤ length registers.old)
-        × Reached a registers.old specials.now × Reached b registers.old specials.now × Reached c registers.old specials.now
-        × Fit (rows sources.old values.old) }
-    ensures { (registers.new
-        ≡ write_all d (result_by operation) mask (gather_of (lent uniforms.now specials.now) registers.old a b c) registers.old)
-        × (rows sources.new values.new
-        ≡ worked_on operation (lent uniforms.now specials.now) registers.old a b c (rows sources.old values.old)) }
+// The uniforms and the special registers, which are only read.
+#[derive(Clone, Copy)]
+pub struct Tables<'a> {
+    pub uniforms: &'a [u32],
+    pub specials: &'a [u32],
+}
+
+// The rows that a step works in: up to three sources of 32 values each, and the results. They are made once for many steps and lent to each.
+#[derive(Drop)]
+pub struct Rows {
+    pub sources: [[u64; 32]; 3],
+    pub values: [u64; 32],
+}
+
+// The registers stand beside the tables and not in them: they are written while the tables are only read.
+fn write(action: &Action, registers: &mut [u32], tables: Tables, mask: u32, rows: &mut Rows)
+    requires { let x = action.now in Fitting x.operation x.a x.b x.c × (32 * destination_reach x.d ≤ length registers.old)
+        × Reached x.a registers.old tables.specials.now × Reached x.b registers.old tables.specials.now × Reached x.c registers.old tables.specials.now }
+    ensures { let x = action.now in (registers.new
+        ≡ write_all x.d (result_by x.operation) mask (gather_of (tables_of tables.entry) registers.old x.a x.b x.c) registers.old)
+        × (rows.new ≡ worked_on x.operation (tables_of tables.entry) registers.old x.a x.b x.c rows.old) }
 {
-    lanes::sources::gather(registers, uniforms, specials, a, b, c, sources);
-    alu::results(operation, sources, values);
-    lanes::results::store(registers, d, mask, values);
+    lanes::sources::gather(
+        registers,
+        tables.uniforms,
+        tables.specials,
+        action.a,
+        action.b,
+        action.c,
+        &mut rows.sources,
+    );
+    alu::results(action.operation, &rows.sources, &mut rows.values);
+    lanes::results::store(registers, action.d, mask, &rows.values);
 }
 
 // r0l of all threads, active or not, and then the mask.
-fn mask(
-    a: Input,
-    b: Input,
-    operation: Operation,
-    registers: &mut [u32],
-    uniforms: &[u32],
-    specials: &[u32],
-    sources: &mut [[u64; 32]; 3],
-    values: &mut [u64; 32],
-) -> u32
-    requires { Fitting operation a b own_r0l × (32 ≤ length registers.old)
-        × Reached a registers.old specials.now × Reached b registers.old specials.now
-        × Fit (rows sources.old values.old) }
-    ensures { Masked (result_by operation) (gather_of (lent uniforms.now specials.now) registers.old a b own_r0l)
-        registers.old registers.new result
-        × (rows sources.new values.new
-        ≡ worked_on operation (lent uniforms.now specials.now) registers.old a b own_r0l (rows sources.old values.old)) }
+fn mask(action: &Action, registers: &mut [u32], tables: Tables, rows: &mut Rows) -> u32
+    requires { let x = action.now in Fitting x.operation x.a x.b own_r0l × (32 ≤ length registers.old)
+        × Reached x.a registers.old tables.specials.now × Reached x.b registers.old tables.specials.now }
+    ensures { let x = action.now in Masked (result_by x.operation)
+        (gather_of (tables_of tables.entry) registers.old x.a x.b own_r0l) registers.old registers.new result
+        × (rows.new ≡ worked_on x.operation (tables_of tables.entry) registers.old x.a x.b own_r0l rows.old) }
 {
-    let own = Src {
+    let own = Input::Operand(Src {
         source: Source::Half(0),
         hint: Hint::None,
-    };
+    });
     lanes::sources::gather(
         registers,
-        uniforms,
-        specials,
-        a,
-        b,
-        Input::Operand(own),
-        sources,
+        tables.uniforms,
+        tables.specials,
+        action.a,
+        action.b,
+        own,
+        &mut rows.sources,
     );
-    alu::results(operation, sources, values);
-    lanes::results::store(registers, Destination::Half(0), 0xffffffff, values);
-    lanes::results::zeros(values)
+    alu::results(action.operation, &rows.sources, &mut rows.values);
+    lanes::results::store(registers, Destination::Half(0), 0xffffffff, &rows.values);
+    lanes::results::zeros(&rows.values)
 }
 
+#[tactic(auto, unfolding(machine::specs::Step::threads_after))]
 pub fn act(
-    action: Action,
+    action: &Action,
     registers: &mut [u32],
-    uniforms: &[u32],
-    specials: &[u32],
+    tables: Tables,
     before: u32,
-    sources: &mut [[u64; 32]; 3],
-    values: &mut [u64; 32],
+    rows: &mut Rows,
 ) -> u32
-    requires { FittingBy action × (32 * registers_reach (meaning_by action) ≤ length registers.old)
-        × (32 * specials_reach (meaning_by action) ≤ length specials.now) × Fit (rows sources.old values.old) }
-    ensures { Acted (meaning_by action) (lent uniforms.now specials.now) registers.old before registers.new result
-        × (rows sources.new values.new
-        ≡ rows_after action (lent uniforms.now specials.now) registers.old (rows sources.old values.old)) }
+    requires { FittingBy action.now × (32 * registers_reach (meaning_by action.now) ≤ length registers.old)
+        × (32 * specials_reach (meaning_by action.now) ≤ length tables.specials.now) }
+    ensures { Acted (meaning_by action.now) (tables_of tables.entry) registers.old before registers.new result
+        × (rows.new ≡ rows_after action.now (tables_of tables.entry) registers.old rows.old) }
 {
-    let kind = action.kind;
-    let d = action.d;
-    let a = action.a;
-    let b = action.b;
-    let c = action.c;
-    let operation = action.operation;
-    match kind {
+    match action.kind {
         Kind::Writes => {
-            write(
-                d, a, b, c, operation, registers, uniforms, specials, before, sources, values,
-            );
+            write(action, registers, tables, before, rows);
             before
         }
-        Kind::Masks => mask(
-            a, b, operation, registers, uniforms, specials, sources, values,
-        ),
-        Kind::JumpsIfAny => before,
-        Kind::JumpsIfNone => before,
+        Kind::Masks => mask(action, registers, tables, rows),
+        Kind::JumpsIfAny | Kind::JumpsIfNone => before,
     }
 }

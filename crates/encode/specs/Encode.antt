@@ -1,16 +1,15 @@
 -- Encoding: what it answers and what it leaves in the lent buffer. Refusals 8 and 9 of the table "Refusal numbers" of the statement
 -- of what to build, 8 before 9; refused, the buffer is untouched.
-use Rattle.std.specs.Prelude.{ℕ, Bool, false, cond, ◌&&◌, List, ◌++◌, eqb, leb, length, drop}
+use Rattle.std.specs.Prelude.{ℕ, Bool, false, cond, ◌&&◌, List, ◌++◌, eqb, leb, length, drop, Option, Some, None, Ok, Err}
 use Rattle.bits.specs.Word.{bytes_of}
 use Rattle.isa.specs.Decode.{decode_of}
 use Rattle.isa.specs.Refusal.{refusal}
-use Rattle.isa.specs.declared.answer.Decoded.{Decoded}
-use Rattle.isa.specs.declared.answer.Encoded.{Encoded}
+use Rattle.isa.specs.Answer.{Decoded}
+use Rattle.isa.specs.Answer.{Encoded}
 use Rattle.isa.specs.declared.instruction.Instruction.{Instruction}
 use Rattle.isa.specs.Parts.{parts_of, length_for, same}
 use Rattle.encoding.specs.Write.{word_for}
 use Rattle.form.specs.Form.{spelled_of}
-use Rattle.form.specs.declared.Spelled.{Spelled}
 use Rattle.answers.specs.Encoded.{answer_by}
 
 abbrev pub length_of : Instruction → ℕ
@@ -22,8 +21,8 @@ bytes_for i = bytes_of (length_of i) (word_for i)
 
 -- what was decoded is the instruction i of n bytes
 abbrev pub is_found : Decoded → Instruction → ℕ → Bool
-is_found (Decoded.Found j m) i n = eqb m n && same j i
-is_found (Decoded.Refused r) i n = false
+is_found (Ok (j, m)) i n = eqb m n && same j i
+is_found (Err r) i n = false
 
 -- an instruction has an encoding where its bytes, decoded alone, give it back with its length
 unfoldable pub accepts : Instruction → Bool
@@ -38,13 +37,13 @@ encoding_left i out = cond (accepts i && leb (length_of i) (length out)) (bytes_
 
 -- ---- from the byte form: bytes that spell no instruction get 8
 
-abbrev pub encoded_spelled : Spelled → List ℕ → Encoded
-encoded_spelled (Spelled.Is i) out = encoded_of i out
-encoded_spelled Spelled.None out = Encoded.Refused (refusal 8)
+abbrev pub encoded_spelled : Option Instruction → List ℕ → Encoded
+encoded_spelled (Some i) out = encoded_of i out
+encoded_spelled None out = Err (refusal 8)
 
-abbrev pub left_spelled : Spelled → List ℕ → List ℕ
-left_spelled (Spelled.Is i) out = encoding_left i out
-left_spelled Spelled.None out = out
+abbrev pub left_spelled : Option Instruction → List ℕ → List ℕ
+left_spelled (Some i) out = encoding_left i out
+left_spelled None out = out
 
 abbrev pub encoded_from : List ℕ → List ℕ → Encoded
 encoded_from form out = encoded_spelled (spelled_of form) out

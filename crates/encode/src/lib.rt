@@ -4,40 +4,43 @@
 ghost use Rattle.std.specs.Prelude.{◌≡◌};
 ghost use Rattle.encode.specs.Encode.{is_found, encoded_of, encoding_left, encoded_from, left_from};
 
-use answers::encoded;
 use bits::piece;
-use form::Spelled;
-use isa::answer::{Decoded, Encoded};
+use isa::answer::Refusal;
 use isa::instruction::Instruction;
 
-fn is_found(d: Decoded, i: Instruction, n: usize) -> bool
+fn is_found(d: Result<(Instruction, usize), Refusal>, i: Instruction, n: usize) -> bool
     ensures { result ≡ is_found d i n }
 {
     match d {
-        Decoded::Found(j, m) => { if m == n { parts::same(j, i) } else { false } }
-        Decoded::Refused(_) => false,
+        Ok((j, m)) => m == n && parts::same(j, i),
+        Err(_) => false,
     }
 }
 
 // Writes the instruction's bytes at the start of the buffer, and answers their number. Refused, it writes nothing.
-pub fn encode(i: Instruction, out: &mut [u8]) -> Encoded
+pub fn encode(i: Instruction, out: &mut [u8]) -> Result<usize, Refusal>
     ensures { (result ≡ encoded_of i out.old) × (out.new ≡ encoding_left i out.old) }
 {
     let n = lengths::length_of(parts::parts_of(i));
     let b = bits::bytes_of(writing::word_for(i));
-    let a = encoded::answer(is_found(decode::decode(&b[..n]), i, n), n, out.len());
-    let k = encoded::written(a);
-    piece::put(out, 0, &b[..k]);
-    a
+    let accepted = is_found(decode::decode(&b[..n]), i, n);
+    if !accepted {
+        return Err(Refusal::NoEncoding);
+    }
+    if out.len() < n {
+        return Err(Refusal::ShortBuffer);
+    }
+    piece::put(out, 0, &b[..n]);
+    Ok(n)
 }
 
 // The same, of an instruction in its byte form.
-pub fn encode_form(form: &[u8], out: &mut [u8]) -> Encoded
+pub fn encode_form(form: &[u8], out: &mut [u8]) -> Result<usize, Refusal>
     ensures { (result ≡ encoded_from form.now out.old)
         × (out.new ≡ left_from form.now out.old) }
 {
     match form::from_bytes(form) {
-        Spelled::Is(i) => encode(i, out),
-        Spelled::None => encoded::spells_none(),
+        Some(i) => encode(i, out),
+        None => Err(Refusal::NoEncoding),
     }
 }

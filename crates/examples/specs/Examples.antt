@@ -1,7 +1,7 @@
 -- The bench examples marked (P) in the statement of what to build, in its order: one list. Each is a run with its bytes, what the bytes
 -- decode to, and what the run answers and leaves; what decodes also encodes to its own bytes. The marks are lent clear, and no example
 -- discards, so that they stay so.
-use Rattle.std.specs.Prelude.{cond, List, [], ◌∷◌, ◌++◌, ℕ, zero, suc, ◌+◌, ◌*◌, ◌/◌, ◌%◌, eqb, replicate, drop}
+use Rattle.std.specs.Prelude.{cond, List, [], ◌∷◌, ◌++◌, ℕ, zero, suc, ◌+◌, ◌*◌, ◌/◌, ◌%◌, eqb, replicate, drop, Ok, Err}
 use Rattle.std.proofs.Math.Option.{Option, none, some}
 use Rattle.isa.specs.Refusal.{refusal}
 use Rattle.isa.specs.Decode.{decode_of}
@@ -12,8 +12,8 @@ use Rattle.isa.specs.declared.operand.Dst.{Dst}
 use Rattle.isa.specs.declared.operand.Src.{Src}
 use Rattle.isa.specs.declared.instruction.Shift.{Shift}
 use Rattle.isa.specs.declared.instruction.Instruction.{Instruction}
-use Rattle.isa.specs.declared.answer.Decoded.{Decoded}
-use Rattle.isa.specs.declared.answer.Encoded.{Encoded}
+use Rattle.isa.specs.Answer.{Decoded}
+use Rattle.isa.specs.Answer.{Encoded}
 use Rattle.encode.specs.Encode.{encoded_of, encoding_left}
 use Rattle.machine.specs.Run.{Call, run_of, answer_of, registers_left, marks_left, records_left}
 use Rattle.machine.specs.declared.answer.Ending.{Ending}
@@ -44,8 +44,8 @@ abbrev buffer : List ℕ
 buffer = replicate 8 0xFF
 
 abbrev encodes : Decoded → Option Written
-encodes (Decoded.Found i n) = some (record { answer = encoded_of i buffer; buffer = encoding_left i buffer })
-encodes (Decoded.Refused r) = none
+encodes (Ok (i, n)) = some (record { answer = encoded_of i buffer; buffer = encoding_left i buffer })
+encodes (Err r) = none
 
 -- what the definitions say of a call and of the instruction at the start of its code
 abbrev pub outcome_of : Call → Outcome
@@ -63,8 +63,8 @@ outcome_of c =
 
 -- the example's own bytes, and the rest of the buffer as it was
 abbrev itself : Decoded → List ℕ → Option Written
-itself (Decoded.Found i n) code = some (record { answer = Encoded.Wrote n; buffer = code ++ drop n buffer })
-itself (Decoded.Refused r) code = none
+itself (Ok (i, n)) code = some (record { answer = Ok n; buffer = code ++ drop n buffer })
+itself (Err r) code = none
 
 -- f of the register and the thread of word i, and of the n - 1 words after it
 abbrev words_from : ℕ → ℕ → (ℕ → ℕ → ℕ) → List ℕ
@@ -118,8 +118,8 @@ one_step code i bytes class before after n f k g =
     record {
       call = calls code n f k before.value 1 32;
       outcome = record {
-        decoded = Decoded.Found i bytes;
-        encoded = itself (Decoded.Found i bytes) code;
+        decoded = Ok (i, bytes);
+        encoded = itself (Ok (i, bytes)) code;
         answer = answers Ending.Finished 1 bytes after.value;
         registers = words n g;
         marks = clear n;
@@ -214,14 +214,14 @@ examples mask =
     ∷ data_step (0x62 ∷ 0x84 ∷ 0x34 ∷ 0x12 ∷ 0x00 ∷ 0x00 ∷ []) (mov16 2 1 0) 6 2 any 0 (with_low 1 0x1234)
     ∷ data_step (0x62 ∷ 0x84 ∷ 0x34 ∷ 0x12 ∷ 0xFF ∷ 0xCF ∷ []) (mov16 2 1 0xCFFF00000000) 6 2 any 0 (with_low 1 0x1234)
     ∷ data_step (0x62 ∷ 0x84 ∷ 0x34 ∷ 0x12 ∷ 0x00 ∷ 0x10 ∷ []) (mov16 66 1 0) 6 34 any 0 (with_low 33 0x1234)
-    ∷ refuses (0x62 ∷ 0x84 ∷ 0x34 ∷ 0x12 ∷ 0x00 ∷ 0x10 ∷ []) (Decoded.Found (mov16 66 1 0) 6) 33 0 5
-    ∷ refuses (0x62 ∷ 0x84 ∷ 0x34 ∷ 0x12 ∷ []) (Decoded.Refused (refusal 2)) 2 0 2
-    ∷ refuses (0x62 ∷ 0x04 ∷ 0x34 ∷ []) (Decoded.Refused (refusal 2)) 2 0 2
-    ∷ refuses (0x62 ∷ []) (Decoded.Refused (refusal 2)) 2 0 2
+    ∷ refuses (0x62 ∷ 0x84 ∷ 0x34 ∷ 0x12 ∷ 0x00 ∷ 0x10 ∷ []) (Ok (mov16 66 1 0, 6)) 33 0 5
+    ∷ refuses (0x62 ∷ 0x84 ∷ 0x34 ∷ 0x12 ∷ []) (Err (refusal 2)) 2 0 2
+    ∷ refuses (0x62 ∷ 0x04 ∷ 0x34 ∷ []) (Err (refusal 2)) 2 0 2
+    ∷ refuses (0x62 ∷ []) (Err (refusal 2)) 2 0 2
     ∷ data_step (0x72 ∷ 0x09 ∷ 0x05 ∷ 0x00 ∷ []) (get_sr 5) 4 3 any 6 (with_special 5)
-    ∷ refuses (0x72 ∷ 0x09 ∷ 0x05 ∷ 0x00 ∷ []) (Decoded.Found (get_sr 5) 4) 3 5 6
+    ∷ refuses (0x72 ∷ 0x09 ∷ 0x05 ∷ 0x00 ∷ []) (Ok (get_sr 5, 4)) 3 5 6
     ∷ data_step (0x72 ∷ 0x09 ∷ 0x05 ∷ 0x04 ∷ []) (get_sr 69) 4 3 any 70 (with_special 69)
-    ∷ refuses (0x72 ∷ 0x09 ∷ 0x05 ∷ 0x04 ∷ []) (Decoded.Found (get_sr 69) 4) 3 69 6
+    ∷ refuses (0x72 ∷ 0x09 ∷ 0x05 ∷ 0x04 ∷ []) (Ok (get_sr 69, 4)) 3 69 6
     -- asr by 31, 127 and 128
     ∷ shifts 0xF6 0x01 0x00 (Instruction.Asr (by 31)) 0xFFFFFFFF
     ∷ shifts 0xF6 0x03 0x01 (Instruction.Asr (by 127)) 0xFFFFFFFF
@@ -234,7 +234,7 @@ examples mask =
     ∷ shifts 0xFE 0x03 0x01 (Instruction.Asrh (by 127)) 0xFFFFFFFF
     ∷ one_step (0x52 ∷ 0x06 ∷ 0x00 ∷ 0x00 ∷ 0x00 ∷ 0x00 ∷ []) (Instruction.PopExec Hint.None 0 0) 6 2 (any_mask mask) but31 1 nested 0 nested
     -- empty code; budgets 0 and 4,097, with room for as many records
-    ∷ stays [] (Decoded.Refused (refusal 2)) 1 0 1 32 Ending.Finished
-    ∷ stays (0x62 ∷ 0x04 ∷ 0x34 ∷ 0x12 ∷ []) (Decoded.Found (mov16 2 0 0) 4) 2 0 0 32 (Ending.Refused (refusal 1))
-    ∷ stays (0x62 ∷ 0x04 ∷ 0x34 ∷ 0x12 ∷ []) (Decoded.Found (mov16 2 0 0) 4) 2 0 4097 65552 (Ending.Refused (refusal 1))
+    ∷ stays [] (Err (refusal 2)) 1 0 1 32 Ending.Finished
+    ∷ stays (0x62 ∷ 0x04 ∷ 0x34 ∷ 0x12 ∷ []) (Ok (mov16 2 0 0, 4)) 2 0 0 32 (Ending.Refused (refusal 1))
+    ∷ stays (0x62 ∷ 0x04 ∷ 0x34 ∷ 0x12 ∷ []) (Ok (mov16 2 0 0, 4)) 2 0 4097 65552 (Ending.Refused (refusal 1))
     ∷ []

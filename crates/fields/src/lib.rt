@@ -7,8 +7,9 @@ ghost use Rattle.machine.specs.Meaning as meaning;
 
 mod shift;
 
-use crate::shift::{across, amount, down, less, mask, up};
+use crate::shift::{across, amount, down, mask, up};
 
+// m, a, b and c are the letters of the document in each of these: a struct of them would name nothing.
 pub fn bfi(m: u8, a: u64, b: u64, c: u64) -> u64
     ensures { result ≡ modulo (meaning.bfi m a b c) 64 }
 {
@@ -40,7 +41,7 @@ pub fn shlhi(m: u8, a: u64, b: u64, c: u64) -> u64
     ensures { result ≡ modulo (meaning.shlhi m a b c) 64 }
 {
     let s = amount(c);
-    let ones = up(mask(m), less(s, 32));
+    let ones = up(mask(m), s.saturating_sub(32));
     (across(b, s, 32) & ones) | (a & !ones)
 }
 
@@ -48,6 +49,6 @@ pub fn shrhi(m: u8, a: u64, b: u64, c: u64) -> u64
     ensures { result ≡ modulo (meaning.shrhi m a b c) 64 }
 {
     let s = amount(c);
-    let ones = up(mask(m), less(32, s));
+    let ones = up(mask(m), 32u64.saturating_sub(s));
     (across(b, 32, s) & ones) | (a & !ones)
 }

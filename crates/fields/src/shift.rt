@@ -1,5 +1,5 @@
 // Shifts by any amount, and the mask of a bit field.
-ghost use Rattle.std.specs.Prelude.{◌≡◌, ◌*◌, ◌-◌, ◌/◌, ◌%◌, ◌^◌};
+ghost use Rattle.std.specs.Prelude.{◌≡◌, ◌*◌, ◌/◌, ◌%◌, ◌^◌};
 ghost use Rattle.machine.specs.Integer.{modulo};
 ghost use Rattle.machine.specs.Meaning.{shift_amount, mask_of};
 
@@ -22,13 +22,6 @@ pub fn down(x: u64, k: u64) -> u64
     ensures { result ≡ x / 2 ^ k }
 {
     if k < 64 { x >> k } else { 0 }
-}
-
-// j - k, or 0 where k is larger.
-pub fn less(j: u64, k: u64) -> u64
-    ensures { result ≡ j - k }
-{
-    if k < j { j - k } else { 0 }
 }
 
 // (x << j) >> k, modulo two to the 64; x << j need not fit.

@@ -1,4 +1,5 @@
 -- Rows that the lowest seven bits rule out do not agree, so the loop can begin after them and stop before them.
+use Rattle.std.proofs.Common.{Err}
 use mathlib.Core.Path.{◌≡◌, refl, sym, ap, ap₂, ◌∙◌, subst}
 use mathlib.Core.Bool.{Bool, true, false, cond}
 use mathlib.Core.List.{List, [], ◌∷◌}
@@ -14,7 +15,6 @@ use Rattle.bits.proofs.Masks.{and_within}
 use Rattle.bits.proofs.Table.{agree}
 use Rattle.isa.specs.Rows.{rows}
 use Rattle.isa.specs.Refusal.{refusal}
-use Rattle.isa.specs.declared.answer.Find.{Find}
 use Rattle.isa.proofs.Placed.{length-rows}
 use Rattle.isa.proofs.RowBytes.{bytes-of_row}
 use Rattle.rows.specs.Table.{row_of, table, no_row}
@@ -99,7 +99,7 @@ module _ (w n : ℕ) (some : 0 < n) (few : n < 9) where
       (λ j l h. low_misses (get_or table j no_row) (before_first (w % 128) table j h)))
 
   pub past_end : (i : ℕ) (more : Bool) → end_in (w % 128) table ≤ i → i ≤ 22
-      → first_of (drop i table) i more w n ≡ cond more (Find.Refused (refusal 2)) (Find.Refused (refusal 3))
+      → first_of (drop i table) i more w n ≡ cond more (Err (refusal 2)) (Err (refusal 3))
   past_end i more h l =
       skip table w n more i (22 - i) 22 (omega arith) (rw length-table (omega arith))
       (λ j g k. low_misses (get_or table j no_row) (after-end (w % 128) table j (omega arith) (rw length-table k)))
@@ -112,11 +112,11 @@ pub end_below : (low : ℕ) → end_in low table ≤ 22
 end_below low = let h = end-within low table in let e = length-table in omega (arith, h, e)
 
 -- where nothing is lent every row agrees, and is longer
-none_of_none : first_of table 0 false 0 0 ≡ Find.Refused (refusal 2)
+none_of_none : first_of table 0 false 0 0 ≡ Err (refusal 2)
 unfolding rows table
 none_of_none = refl
 
-pub none_lent : (w n : ℕ) → n ≡ 0 → w < 2 ^ (8 * n) → first_of table 0 false w n ≡ Find.Refused (refusal 2)
+pub none_lent : (w n : ℕ) → n ≡ 0 → w < 2 ^ (8 * n) → first_of table 0 false w n ≡ Err (refusal 2)
 none_lent w n e h =
     let z : w ≡ 0 = (let g : w < 2 ^ (8 * 0) = subst (λ (x : ℕ). w < 2 ^ (8 * x)) e h in omega arith) in
     ap₂ (λ (x y : ℕ). first_of table 0 false x y) z e ∙ none_of_none

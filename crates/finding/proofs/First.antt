@@ -1,4 +1,5 @@
 -- The first form that matches is the one that the finding rule takes: no other matches, so none has more fixed bits.
+use Rattle.std.proofs.Common.{Ok, Err}
 use mathlib.Core.Path.{◌≡◌, refl, sym, ap, ◌∙◌}
 use mathlib.Core.Bool.{Bool, true, false, cond, ◌&&◌, ◌||◌, or_assoc}
 use mathlib.Core.List.{List, [], ◌∷◌}
@@ -17,7 +18,7 @@ use Rattle.bits.proofs.Laws.{Bytes}
 use Rattle.bits.proofs.Table.{all, left, right}
 use Rattle.isa.specs.Refusal.{refusal}
 use Rattle.isa.specs.Find.{Form, forms, matches, goes_on, beats, best_of, any_goes_on, found, find_of}
-use Rattle.isa.specs.declared.answer.Find.{Find}
+use Rattle.isa.specs.Answer.{Find}
 use Rattle.isa.proofs.Forms.{WellFormed, well_formed, well_formed_lem, all-well_formed, in_word_lem}
 use Rattle.isa.proofs.Exclusive.{apart, pairs, exclusive, clash}
 
@@ -27,9 +28,9 @@ form_agrees f w n = eqb (bit_and w f.mask) (bit_and f.value (ones n))
 
 -- the first form of a list that matches the word w of which n bytes are lent; whether one before it agreed, and is longer
 abbrev pub first_form : List Form → Bool → ℕ → ℕ → Find
-first_form [] more w n = cond more (Find.Refused (refusal 2)) (Find.Refused (refusal 3))
+first_form [] more w n = cond more (Err (refusal 2)) (Err (refusal 3))
 first_form (f ∷ fs) more w n =
-    cond (leb f.bytes n && form_agrees f w n) (Find.At f.place f.bytes) (first_form fs (more || form_agrees f w n) w n)
+    cond (leb f.bytes n && form_agrees f w n) (Ok (f.place, f.bytes)) (first_form fs (more || form_agrees f w n) w n)
 
 -- a number within b bytes is not changed by the mask of n bytes
 kept : (v b n : ℕ) → v < 2 ^ (8 * b) → b ≤ n → bit_and v (ones n) ≡ v
@@ -103,7 +104,7 @@ module _ (s : List ℕ) (hs : Bytes s) where
 
       go : (b : Bool) → matches f s ≡ b
           → ((more : Bool) → first_form fs more (word_of s) lent ≡ found (best_of fs s none) (more || any_goes_on fs s))
-          → cond b (Find.At f.place f.bytes) (first_form fs (more || form_agrees f (word_of s) lent) (word_of s) lent)
+          → cond b (Ok (f.place, f.bytes)) (first_form fs (more || form_agrees f (word_of s) lent) (word_of s) lent)
           ≡ found (best_of fs s (cond (b && true) (some f) none)) (more || (goes_on f s || any_goes_on fs s))
       go true m ih =
           rw (stays f lf m fs (right (well_formed f) _ tl) (left (all (apart f) fs) _ tp))

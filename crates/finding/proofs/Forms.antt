@@ -1,4 +1,5 @@
 -- The forms of a row, tried one after the other, are the row tried once: the word's bit L says which of two forms it can be.
+use Rattle.std.proofs.Common.{Ok}
 use mathlib.Core.Path.{◌≡◌, refl, sym, ap, ap₂, ◌∙◌}
 use mathlib.Core.Bool.{Bool, true, false, cond, ◌&&◌, ◌||◌, or-true, or-false, and-true, and-false}
 use mathlib.Core.List.{List, [], ◌∷◌, ◌++◌, map}
@@ -13,7 +14,7 @@ use Rattle.bits.proofs.Table.{all, left, right}
 use Rattle.isa.specs.Diagram.{Diagram}
 use Rattle.isa.specs.Rows.{rows}
 use Rattle.isa.specs.Find.{Form, diagram_form, forms_at, forms_from, forms, absent}
-use Rattle.isa.specs.declared.answer.Find.{Find}
+use Rattle.isa.specs.Answer.{Find}
 use Rattle.rows.specs.Table.{row_of, table}
 use Rattle.rows.specs.declared.Row.{Row}
 use Rattle.finding.specs.First.{agrees, length_by, first_of}
@@ -76,13 +77,13 @@ clear_or_set w h =
 -- the row r at the place i is tried, and then the rest
 abbrev tried : Row → ℕ → ℕ → ℕ → Bool → (Bool → Find) → Find
 tried r i w n more rest =
-    cond (agrees r w n) (cond (leb (length_by r w) n) (Find.At i (length_by r w)) (rest true)) (rest more)
+    cond (agrees r w n) (cond (leb (length_by r w) n) (Ok (i, length_by r w)) (rest true)) (rest more)
 
 -- a form at the place i, of b bytes, that agrees or does not, is tried, and then the rest
 abbrev tried_form : ℕ → ℕ → ℕ → Bool → Bool → (Bool → Find) → Find
-tried_form i b n a more rest = cond (leb b n && a) (Find.At i b) (rest (more || a))
+tried_form i b n a more rest = cond (leb b n && a) (Ok (i, b)) (rest (more || a))
 
-met : (i b n : ℕ) (more : Bool) (rest : Bool → Find) → tried_form i b n true more rest ≡ cond (leb b n) (Find.At i b) (rest true)
+met : (i b n : ℕ) (more : Bool) (rest : Bool → Find) → tried_form i b n true more rest ≡ cond (leb b n) (Ok (i, b)) (rest true)
 met i b n more rest = simp (and-true, or-true)
 
 missed : (i b n : ℕ) (more : Bool) (rest : Bool → Find) → tried_form i b n false more rest ≡ rest more
@@ -119,7 +120,7 @@ module _ (w n : ℕ) (hw : bit_and w (ones n) ≡ w) (r : Row) (i : ℕ) (more :
       ≡ tried r i w n more rest
   one z = rw (z, or_zero_l r.fixed, or_zero_l r.value, and_zero_r w) (go (agrees r w n))
     where
-      go : (a : Bool) → tried_form i r.bytes n a more rest ≡ cond a (cond (leb r.bytes n) (Find.At i r.bytes) (rest true)) (rest more)
+      go : (a : Bool) → tried_form i r.bytes n a more rest ≡ cond a (cond (leb r.bytes n) (Ok (i, r.bytes)) (rest true)) (rest more)
       go true = met i r.bytes n more rest
       go false = missed i r.bytes n more rest
 
@@ -155,14 +156,14 @@ module _ (w n : ℕ) (hw : bit_and w (ones n) ≡ w) (r : Row) (i : ℕ) (more :
     abbrev both : Bool → Bool → Find
     both s g = tried_form i (r.bytes - 2) n s more (λ (m : Bool). tried_form i r.bytes n g m rest)
 
-    set : both false true ≡ cond (leb r.bytes n) (Find.At i r.bytes) (rest true)
+    set : both false true ≡ cond (leb r.bytes n) (Ok (i, r.bytes)) (rest true)
     set = missed i (r.bytes - 2) n more (λ (m : Bool). tried_form i r.bytes n true m rest) ∙ met i r.bytes n more rest
 
-    unset : (g : Bool) → both true g ≡ cond (leb (r.bytes - 2) n) (Find.At i (r.bytes - 2)) (rest true)
+    unset : (g : Bool) → both true g ≡ cond (leb (r.bytes - 2) n) (Ok (i, r.bytes - 2)) (rest true)
     unset g = met i (r.bytes - 2) n more (λ (m : Bool). tried_form i r.bytes n g m rest) ∙ go (leb (r.bytes - 2) n) refl
       where
         go : (p : Bool) → leb (r.bytes - 2) n ≡ p
-            → cond p (Find.At i (r.bytes - 2)) (tried_form i r.bytes n g true rest) ≡ cond p (Find.At i (r.bytes - 2)) (rest true)
+            → cond p (Ok (i, r.bytes - 2)) (tried_form i r.bytes n g true rest) ≡ cond p (Ok (i, r.bytes - 2)) (rest true)
         go true e = refl
         go false e = longer i r.bytes n g rest (let h : n < r.bytes - 2 = leb-false _ _ e in omega arith)
 
@@ -174,7 +175,7 @@ module _ (w n : ℕ) (hw : bit_and w (ones n) ≡ w) (r : Row) (i : ℕ) (more :
       where
         go : (a h : Bool) → agrees r w n ≡ a → has_l ≡ h
             → both short_agrees long_agrees
-            ≡ cond a (cond (leb (cond h r.bytes (r.bytes - 2)) n) (Find.At i (cond h r.bytes (r.bytes - 2))) (rest true)) (rest more)
+            ≡ cond a (cond (leb (cond h r.bytes (r.bytes - 2)) n) (Ok (i, cond h r.bytes (r.bytes - 2))) (rest true)) (rest more)
         go true true ea eh = ap₂ both (short_missed eh) (long_met ea eh) ∙ set
         go true false ea eh = ap (λ (s : Bool). both s long_agrees) (short_met ea eh) ∙ unset long_agrees
         go false h ea eh = ap₂ both (neither ea).0 (neither ea).1 ∙ unmet
@@ -208,7 +209,7 @@ module _ (w n : ℕ) (hw : bit_and w (ones n) ≡ w) where
       → first_of (map row_of ds) i more w n ≡ first_form (forms_from i ds) more w n
   rows-once [] t i more = refl
   rows-once (d ∷ ds) t i more =
-      ap₂ (λ (x y : Find). cond (agrees (row_of d) w n) (cond (leb (length_by (row_of d) w) n) (Find.At i (length_by (row_of d) w)) x) y)
+      ap₂ (λ (x y : Find). cond (agrees (row_of d) w n) (cond (leb (length_by (row_of d) w) n) (Ok (i, length_by (row_of d) w)) x) y)
       (rows-once ds (right (known (row_of d)) _ t) (suc i) true) (rows-once ds (right (known (row_of d)) _ t) (suc i) more)
       ∙ sym (row_once d (left (known (row_of d)) _ t) i more (forms_from (suc i) ds))
 

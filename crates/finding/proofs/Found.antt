@@ -1,6 +1,7 @@
 -- The first row that matches the word of some bytes is what the finding rule answers for them.
-use mathlib.Core.Path.{◌≡◌, refl, sym, ap₂, ◌∙◌, subst}
-use mathlib.Core.Bool.{Bool, true, false, cond}
+use Rattle.std.proofs.Common.{Ok}
+use mathlib.Core.Path.{◌≡◌, refl, ap₂, ◌∙◌, subst}
+use mathlib.Core.Bool.{false}
 use mathlib.Core.List.{List}
 use Prim.Native.Nat.{ℕ, ◌*◌, ◌^◌, ◌≤◌, ◌<◌, min}
 use native.Mathlib.Omega.{arith}
@@ -8,20 +9,15 @@ use lib.ListN.{length, take, length-take}
 use Rattle.bits.specs.Word.{word_of}
 use Rattle.bits.proofs.Laws.{Bytes, bytes_take, le_lt, pow_bytes}
 use Rattle.bits.proofs.Masks.{and_all}
-use Rattle.isa.specs.Refusal.{refusal}
 use Rattle.isa.specs.Find.{find_of}
-use Rattle.isa.specs.declared.answer.Find.{Find}
+use Rattle.isa.specs.Answer.{Find}
 use Rattle.rows.specs.Table.{table}
 use Rattle.finding.specs.First.{first_of, FoundWithin}
 use Rattle.finding.proofs.First.{form_is_found}
 use Rattle.finding.proofs.Forms.{first_row_is_first_form}
 
-pub within : (f : Find) (p n : ℕ) → FoundWithin f → f ≡ Find.At p n → (p < 22) × (n < 9)
+pub within : (f : Find) (p n : ℕ) → FoundWithin f → f ≡ Ok (p, n) → (p < 22) × (n < 9)
 within f p n h e = subst FoundWithin e h
-
-pub refused-within : (more : Bool) (f : Find) → f ≡ cond more (Find.Refused (refusal 2)) (Find.Refused (refusal 3)) → FoundWithin f
-refused-within true f e = subst FoundWithin (sym e) tt
-refused-within false f e = subst FoundWithin (sym e) tt
 
 -- absent bytes are zero
 pub word-lent : (s : List ℕ) → Bytes s → (w n : ℕ) → w ≡ word_of s → n ≡ min 8 (length s) → w < 2 ^ (8 * n)

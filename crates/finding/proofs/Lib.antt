@@ -3,3 +3,4 @@ pub mod Forms
 pub mod Steps
 pub mod Candidates
 pub mod Found
+pub mod Loop

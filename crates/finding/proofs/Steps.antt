@@ -1,4 +1,5 @@
 -- The steps of the loop along a table of rows.
+use Rattle.std.proofs.Common.{Ok, Err}
 use mathlib.Core.Path.{◌≡◌, sym, ap, ap₂, ◌∙◌}
 use mathlib.Core.Bool.{Bool, true, false, cond}
 use mathlib.Core.List.{List}
@@ -11,7 +12,6 @@ use lib.Seq.{drop-cons}
 use borrow.Author.Tests.{le-leb, lt-leb}
 use Rattle.bits.specs.Word.{ones}
 use Rattle.isa.specs.Refusal.{refusal}
-use Rattle.isa.specs.declared.answer.Find.{Find}
 use Rattle.rows.specs.Table.{no_row}
 use Rattle.rows.specs.declared.Row.{Row}
 use Rattle.finding.specs.First.{agrees_with, agrees, length_by, first_of}
@@ -19,12 +19,12 @@ use Rattle.finding.specs.First.{agrees_with, agrees, length_by, first_of}
 module _ (rs : List Row) (i : ℕ) (h : i < length rs) (w n : ℕ) (more : Bool) where
   next : first_of (drop i rs) i more w n
       ≡ cond (agrees (get_or rs i no_row) w n)
-      (cond (leb (length_by (get_or rs i no_row) w) n) (Find.At i (length_by (get_or rs i no_row) w)) (first_of (drop (i + 1) rs) (i + 1) true w n))
+      (cond (leb (length_by (get_or rs i no_row) w) n) (Ok (i, length_by (get_or rs i no_row) w)) (first_of (drop (i + 1) rs) (i + 1) true w n))
       (first_of (drop (i + 1) rs) (i + 1) more w n)
   next = rw (add-one i) (ap (λ (l : List Row). first_of l i more w n) (drop-cons rs i no_row h))
 
   pub hit : agrees (get_or rs i no_row) w n ≡ true → length_by (get_or rs i no_row) w ≤ n
-      → first_of (drop i rs) i more w n ≡ Find.At i (length_by (get_or rs i no_row) w)
+      → first_of (drop i rs) i more w n ≡ Ok (i, length_by (get_or rs i no_row) w)
   hit a l = next ∙ simp (a, le-leb _ _ l)
 
   pub wait : agrees (get_or rs i no_row) w n ≡ true → n < length_by (get_or rs i no_row) w
@@ -46,7 +46,7 @@ skip rs w n more a (suc d) b e h m =
     ∙ skip rs w n more (a + 1) d b (omega arith) h (λ j l g. m j (omega arith) g)
 
 pub ends : (rs : List Row) (i w n : ℕ) (more : Bool) → length rs ≤ i
-    → first_of (drop i rs) i more w n ≡ cond more (Find.Refused (refusal 2)) (Find.Refused (refusal 3))
+    → first_of (drop i rs) i more w n ≡ cond more (Err (refusal 2)) (Err (refusal 3))
 ends rs i w n more h = ap (λ (l : List Row). first_of l i more w n) (drop_of_length-le rs h)
 
 -- what the loop asks of a row that it read is what the definition asks

@@ -2,7 +2,7 @@
 use Rattle.std.specs.Prelude.{ℕ, suc, Bool, cond, List, [], ◌∷◌, eqb}
 use Rattle.rows.specs.declared.Row.{Row}
 use Rattle.finding.specs.First.{agrees_with}
-use Rattle.finding.specs.declared.low.Candidates.{Candidates}
+use Rattle.std.specs.declared.ops.Range.{Range}
 
 abbrev pub low_agrees : ℕ → Row → Bool
 low_agrees low r = agrees_with 127 r low
@@ -17,5 +17,5 @@ abbrev pub end_in : ℕ → List Row → ℕ
 end_in low [] = 0
 end_in low (r ∷ rs) = cond (eqb (end_in low rs) 0) (cond (low_agrees low r) 1 0) (suc (end_in low rs))
 
-abbrev pub candidates_of : ℕ → List Row → Candidates
-candidates_of low rs = record { first = first_in low rs; end = end_in low rs }
+abbrev pub candidates_of : ℕ → List Row → Range ℕ
+candidates_of low rs = record { start = first_in low rs; end = end_in low rs }

@@ -5,19 +5,19 @@ ghost use Rattle.std.specs.Prelude.{◌≡◌, min, ◌<◌};
 ghost use Rattle.bits.specs.Word.{ones};
 ghost use Rattle.isa.specs.Find.{find_of};
 
+use isa::answer::Refusal;
+
 pub mod low;
 pub mod matching;
-
-use isa::answer::Find;
 
 // How many of n bytes a word holds.
 pub fn held(n: usize) -> usize
     ensures { result ≡ min 8 n }
 {
-    if n < 8 { n } else { 8 }
+    n.min(8)
 }
 
-// Ones at all the bits of n bytes.
+// Ones at all the bits of n bytes. A table: a shift is no plainer, since 8 bytes would need a case of their own.
 pub fn ones_of(n: usize) -> u64
     requires { n < 9 }
     ensures { result ≡ ones n }
@@ -36,7 +36,7 @@ pub fn ones_of(n: usize) -> u64
 }
 
 // The place of the diagram in the list and the length of the instruction, or why there is none.
-pub fn find(code: &[u8]) -> Find
+pub fn find(code: &[u8]) -> Result<(usize, usize), Refusal>
     ensures { result ≡ find_of code.now }
 {
     matching::find_first(bits::word(code), held(code.len()))

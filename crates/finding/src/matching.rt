@@ -6,7 +6,7 @@ ghost use Rattle.finding.specs.First.{agrees_with, length_by, first_of, FoundWit
 
 use crate::low::rows_with;
 use crate::ones_of;
-use isa::answer::{Find, Refusal};
+use isa::answer::Refusal;
 use rows::{Row, row_at};
 
 // The fixed bits that are lent agree with the word w; k has ones at the bits that are lent.
@@ -28,39 +28,25 @@ fn length_by(r: Row, w: u64) -> usize
     }
 }
 
-fn refused(more: bool) -> Find
-    ensures { result ≡ cond more (Find.Refused (refusal 2)) (Find.Refused (refusal 3)) }
-{
-    if more {
-        Find::Refused(Refusal::CutShort)
-    } else {
-        Find::Refused(Refusal::NoDiagram)
-    }
-}
-
 // The first row that matches the word w, of which n bytes are lent and the others are zero.
-pub fn find_first(w: u64, n: usize) -> Find
+pub fn find_first(w: u64, n: usize) -> Result<(usize, usize), Refusal>
     requires { (n < 9) × (w < 2 ^ (8 * n)) }
     ensures { (result ≡ first_of table 0 false w n) × FoundWithin result }
 {
     if n == 0 {
-        return Find::Refused(Refusal::CutShort);
+        return Err(Refusal::CutShort);
     }
     let k = ones_of(n);
-    let c = rows_with(w % 128);
-    let end = c.end;
-    let mut more = false;
-    let mut i = c.first;
-    while i < end {
+    let mut why = Refusal::NoDiagram;
+    for i in rows_with(w % 128) {
         let r = row_at(i);
         if agree(r, w, k) {
             let bytes = length_by(r, w);
             if bytes <= n {
-                return Find::At(i, bytes);
+                return Ok((i, bytes));
             }
-            more = true;
+            why = Refusal::CutShort;
         }
-        i += 1;
     }
-    refused(more)
+    Err(why)
 }

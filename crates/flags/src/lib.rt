@@ -7,6 +7,7 @@ ghost use Rattle.encoding.specs.Flags.{dst_numbers, src_numbers, cache_bit, dst_
 use encoding::Numbers;
 use isa::operand::{Destination, Dst, Hint, Source, Src};
 
+// What goes into the one bit of a destination, where Discard has no place: 2 does not fit. The numbers of the byte form are the same by chance.
 pub fn cache_bit(h: Hint) -> u64
     ensures { (result ≡ cache_bit h) × (result < 3) }
 {
@@ -27,6 +28,7 @@ fn destination_number(d: Destination) -> u64
     }
 }
 
+// By the document, where two cases have one number: no order of the cases gives it.
 fn destination_flags(d: Destination) -> u64
     ensures { (result ≡ dst_flags d) × (result < 3) }
 {
@@ -75,22 +77,21 @@ fn source_flags(s: Source, h: Hint) -> u64
     }
 }
 
+// Functions and no `From`: that would have to stand in isa or in encoding, and the flags with it.
 pub fn of_dst(x: Dst) -> Numbers
     ensures { result ≡ dst_numbers x }
 {
-    let d = x.destination;
-    let h = x.hint;
-    let v = destination_number(d);
-    let t = destination_flags(d) + cache_bit(h);
-    Numbers { v: v, t: t }
+    Numbers {
+        v: destination_number(x.destination),
+        t: destination_flags(x.destination) + cache_bit(x.hint),
+    }
 }
 
 pub fn of_src(x: Src) -> Numbers
     ensures { result ≡ src_numbers x }
 {
-    let s = x.source;
-    let h = x.hint;
-    let v = source_number(s);
-    let t = source_flags(s, h);
-    Numbers { v: v, t: t }
+    Numbers {
+        v: source_number(x.source),
+        t: source_flags(x.source, x.hint),
+    }
 }

@@ -1,5 +1,6 @@
 -- What decodes fits: each number of the instruction is within its type. A field is within the bits that its diagram prints for it, and
 -- the "?" bits are within the word. One proof for each layout, in document order.
+use Rattle.std.proofs.Common.{Option, Some, None, Ok, Err}
 use mathlib.Core.Path.{◌≡◌, subst}
 use mathlib.Core.Bool.{Bool, true, false, cond}
 use mathlib.Core.List.{List, [], ◌∷◌}
@@ -24,16 +25,12 @@ use Rattle.isa.specs.Find.{find_of}
 use Rattle.isa.specs.Decode.{no_diagram, row_at, read_at, decode_of}
 use Rattle.isa.specs.declared.operand.Dst.{Dst}
 use Rattle.isa.specs.declared.operand.Src.{Src}
-use Rattle.isa.specs.declared.operand.ReadDst.{ReadDst}
-use Rattle.isa.specs.declared.operand.ReadSrc.{ReadSrc}
 use Rattle.isa.specs.declared.instruction.Bitfield.{Bitfield}
 use Rattle.isa.specs.declared.instruction.Shift.{Shift}
 use Rattle.isa.specs.declared.instruction.Scan.{Scan}
 use Rattle.isa.specs.declared.instruction.Compare.{Compare}
 use Rattle.isa.specs.declared.instruction.Instruction.{Instruction}
-use Rattle.isa.specs.declared.answer.Find.{Find}
-use Rattle.isa.specs.declared.answer.Reading.{Reading}
-use Rattle.isa.specs.declared.answer.Decoded.{Decoded}
+use Rattle.isa.specs.Answer.{Decoded}
 use Rattle.isa.proofs.Cases.{cases}
 use Rattle.isa.proofs.Found.{Lent, found-lent}
 use Rattle.isa.proofs.WasRead.{Reads, none_reads, is_reads, on_dst, on_unary, on_binary, on_ternary, on_compared, on_condition}
@@ -50,13 +47,13 @@ either false p q = q
 
 -- ---- operands
 
-abbrev FitsReadDst : ReadDst → Type 0
-FitsReadDst (ReadDst.Is d) = FitsDestination d.destination
-FitsReadDst ReadDst.NoMeaning = Unit {0}
+abbrev FitsReadDst : Option Dst → Type 0
+FitsReadDst (Some d) = FitsDestination d.destination
+FitsReadDst None = Unit {0}
 
-abbrev FitsReadSrc : ReadSrc → Type 0
-FitsReadSrc (ReadSrc.Is s) = FitsSource s.source
-FitsReadSrc ReadSrc.NoMeaning = Unit {0}
+abbrev FitsReadSrc : Option Src → Type 0
+FitsReadSrc (Some s) = FitsSource s.source
+FitsReadSrc None = Unit {0}
 
 destination_fits : (wide : Bool) (v t : ℕ) → U8 v → Has FitsReadDst (destination_of wide v t)
 unfolding destination_of
@@ -123,12 +120,12 @@ module _ (w : ℕ) (r : Diagram) where
       lt_of_lt_of_le (join (f x) (f y ⦂ f z) (field x) (join (f y) (f z) (field y) (field z))) (pow_mono l)
 
   -- operands of two joined fields
-  dst_fits : (wide : Bool) (t : ℕ) (d : Dst) → (f "Dx" ⦂ f "D").width ≤ 8 → destination_of wide (f "Dx" ⦂ f "D").value t ≡ ReadDst.Is d
+  dst_fits : (wide : Bool) (t : ℕ) (d : Dst) → (f "Dx" ⦂ f "D").width ≤ 8 → destination_of wide (f "Dx" ⦂ f "D").value t ≡ Some d
       → FitsDestination d.destination
   dst_fits wide t d l e = subst FitsReadDst e (destination_fits wide _ t (two "Dx" "D" l)).has
 
   src_fits : (x y : String) (wide : Bool) (t : ℕ) (s : Src) → (f x ⦂ f y).width ≤ 8
-      → source_of wide (f x ⦂ f y).value t ≡ ReadSrc.Is s → FitsSource s.source
+      → source_of wide (f x ⦂ f y).value t ≡ Some s → FitsSource s.source
   src_fits x y wide t s l e = subst FitsReadSrc e (source_fits wide _ t (two x y l)).has
 
   -- the "?" bits
@@ -343,14 +340,14 @@ row_fits (d ∷ ds) a zero w h = a.0 w h
 row_fits (d ∷ ds) a (suc place) w h = row_fits ds a.1 place w h
 
 abbrev FitsDecoded : Decoded → Type 0
-FitsDecoded (Decoded.Found i n) = Fits i
-FitsDecoded (Decoded.Refused r) = Unit {0}
+FitsDecoded (Ok (i, n)) = Fits i
+FitsDecoded (Err r) = Unit {0}
 
 -- what decodes fits: each number of the instruction is within its type
-pub decoded_fits : (s : List ℕ) → Bytes s → (i : Instruction) (n : ℕ) → decode_of s ≡ Decoded.Found i n → Fits i
+pub decoded_fits : (s : List ℕ) → Bytes s → (i : Instruction) (n : ℕ) → decode_of s ≡ Ok (i, n) → Fits i
 decoded_fits s b i n e = subst FitsDecoded e (cases FitsDecoded s here (λ r x y. tt))
   where
-    here : (p m : ℕ) (j : Instruction) → find_of s ≡ Find.At p m → read_at p (le (take m s)) ≡ Reading.Is j → Fits j
+    here : (p m : ℕ) (j : Instruction) → find_of s ≡ Ok (p, m) → read_at p (le (take m s)) ≡ Some j → Fits j
     here p m j found read =
         let k = subst (Lent s) found (found-lent s) in
         let l : length (take m s) ≤ 8 = simp length-take (omega arith) in

@@ -1,4 +1,5 @@
 -- The worked examples of docs/byte-form.md: what each encoding decodes to, the form of that, and what the form's bytes spell.
+use Rattle.std.proofs.Common.{Some, Ok}
 use mathlib.Core.Path.{◌≡◌, refl}
 use mathlib.Core.List.{List, [], ◌∷◌}
 use Prim.Native.Nat.{ℕ}
@@ -11,11 +12,9 @@ use Rattle.isa.specs.declared.operand.Destination.{Destination}
 use Rattle.isa.specs.declared.operand.Source.{Source}
 use Rattle.isa.specs.declared.operand.Hint.{Hint}
 use Rattle.isa.specs.declared.instruction.Instruction.{Instruction}
-use Rattle.isa.specs.declared.answer.Decoded.{Decoded}
 use Rattle.isa.specs.Parts.{parts_of, length_for}
 use Rattle.form.specs.Form.{form_of, spelled_of}
 use Rattle.formread.specs.Read.{instruction_from}
-use Rattle.form.specs.declared.Spelled.{Spelled}
 
 -- mov16 of 1234 hex to r1l, in the long form with every "?" bit set
 abbrev mov_code : List ℕ
@@ -53,7 +52,7 @@ sub_bytes =
     ∷ []
 
 abbrev Worked : List ℕ → Instruction → ℕ → List ℕ → Type 0
-Worked code i n b = (decode_of code ≡ Decoded.Found i n) × (form_of i ≡ b) × (spelled_of b ≡ Spelled.Is i)
+Worked code i n b = (decode_of code ≡ Ok (i, n)) × (form_of i ≡ b) × (spelled_of b ≡ Some i)
 
 pub forms_hold : Worked mov_code mov 6 mov_bytes × Worked sub_code sub 8 sub_bytes
 unfolding rows forms decode_of destination_of source_of uniform_of unary binary with_dst with_binary parts_of length_for instruction_from spelled_of

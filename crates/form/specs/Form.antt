@@ -1,10 +1,9 @@
 -- The byte form of an instruction, as docs/byte-form.md lays it out: 48 bytes, numbers little-endian.
-use Rattle.std.specs.Prelude.{ℕ, cond, ◌&&◌, List, eqb, ltb, length}
+use Rattle.std.specs.Prelude.{ℕ, cond, ◌&&◌, List, eqb, ltb, length, Option, Some, None}
 use Rattle.isa.specs.declared.instruction.Instruction.{Instruction}
 use Rattle.isa.specs.Parts.{parts_of, length_for}
 use Rattle.bits.specs.Lists.{eq_list}
 use Rattle.layout.specs.Lay.{lay_with}
-use Rattle.form.specs.declared.Spelled.{Spelled}
 use Rattle.isa.specs.declared.parts.Parts.{Parts}
 use Rattle.formread.specs.Read.{at, instruction_from}
 
@@ -16,10 +15,10 @@ lay_out p = lay_with p (length_for p)
 abbrev pub form_of : Instruction → List ℕ
 form_of i = lay_out (parts_of i)
 
-abbrev pub spelled_by : Instruction → List ℕ → Spelled
-spelled_by i b = cond (eq_list (form_of i) b) (Spelled.Is i) Spelled.None
+abbrev pub spelled_by : Instruction → List ℕ → Option Instruction
+spelled_by i b = cond (eq_list (form_of i) b) (Some i) None
 
 -- 48 bytes with a kind from 1 to 22 spell that instruction, if they are its form; all other bytes spell none
-unfoldable pub spelled_of : List ℕ → Spelled
+unfoldable pub spelled_of : List ℕ → Option Instruction
 spelled_of b =
-    cond (eqb (length b) 48 && (ltb 0 (at b 0) && ltb (at b 0) 23)) (spelled_by (instruction_from (at b 0) b) b) Spelled.None
+    cond (eqb (length b) 48 && (ltb 0 (at b 0) && ltb (at b 0) 23)) (spelled_by (instruction_from (at b 0) b) b) None

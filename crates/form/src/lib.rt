@@ -1,10 +1,9 @@
 // The byte form of an instruction: 48 bytes for callers in other languages. docs/byte-form.md has the layout.
 #![tactic(auto)]
 
-ghost use Rattle.std.specs.Prelude.{◌≡◌};
+ghost use Rattle.std.specs.Prelude.{◌≡◌, Some};
 ghost use Rattle.form.specs.Form.{lay_out, form_of, spelled_of};
 
-use bits::equal;
 use formread::instruction_from;
 use isa::instruction::Instruction;
 use isa::parts::Parts;
@@ -12,16 +11,9 @@ use layout::lay_out;
 use lengths::length_of;
 use parts::parts_of;
 
-// What bytes spell: an instruction, or none.
-#[derive(Clone, Copy)]
-pub enum Spelled {
-    Is(Instruction),
-    None,
-}
-
 // The byte form, from which every instruction is read back.
 pub fn to_bytes(i: Instruction) -> [u8; 48]
-    ensures { (result ≡ form_of i) × (spelled_of result ≡ Spelled.Is i) }
+    ensures { (result ≡ form_of i) × (spelled_of result ≡ Some i) }
 {
     of_parts(parts_of(i))
 }
@@ -35,24 +27,16 @@ pub fn of_parts(p: Parts) -> [u8; 48]
 }
 
 // The instruction that bytes spell: they must be its byte form, and nothing else.
-pub fn from_bytes(b: &[u8]) -> Spelled
+pub fn from_bytes(b: &[u8]) -> Option<Instruction>
     ensures { result ≡ spelled_of b.now }
 {
-    if b.len() != 48 {
-        return Spelled::None;
+    let Ok(form) = <&[u8; 48]>::try_from(b) else {
+        return None;
+    };
+    let kind = form[0];
+    if kind == 0 || 22 < kind {
+        return None;
     }
-    let kind = b[0];
-    if kind == 0 {
-        return Spelled::None;
-    }
-    if 22 < kind {
-        return Spelled::None;
-    }
-    let i = instruction_from(kind, b);
-    let f = to_bytes(i);
-    if equal::bytes(&f, b) {
-        Spelled::Is(i)
-    } else {
-        Spelled::None
-    }
+    let i = instruction_from(kind, form);
+    if to_bytes(i) == *form { Some(i) } else { None }
 }

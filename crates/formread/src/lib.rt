@@ -1,7 +1,8 @@
 // Reading 48 bytes as the instruction of a kind: one function for each layout. Bytes that the layout has no use for are not looked at.
+// Kinds and hints come as bytes, by the numbers of docs/byte-form.md, which are the C interface.
 #![tactic(auto)]
 
-ghost use Rattle.std.specs.Prelude.{◌≡◌, ◌+◌, ◌^◌, ◌≤◌, ◌<◌, length};
+ghost use Rattle.std.specs.Prelude.{◌≡◌, ◌+◌, ◌^◌, ◌≤◌, ◌<◌};
 ghost use Rattle.formread.specs.Read.{number_at, hint_from, destination_from, source_from, dst_at, src_at, kept_from};
 ghost use Rattle.formread.specs.Read.{unary_from, binary_from, ternary_from, compared_from, bitfield_from, shift_from, scan_from, compare_from};
 ghost use Rattle.formread.specs.Read.{mov16_from, mov32_from, get_sr_from, iadd_from, imadd_from, bitop_from, pop_exec_from, instruction_from};
@@ -11,12 +12,11 @@ use isa::instruction::{Bitfield, Compare, Instruction, Scan, Shift};
 use isa::operand::{Binary, Compared, Destination, Dst, Hint, Source, Src, Ternary, Unary};
 
 // The little-endian number of n bytes from k on.
-fn number_at(b: &[u8], k: usize, n: usize) -> u64
-    requires { (n ≤ 8) × (k + n ≤ length b.now) }
+fn number_at(b: &[u8; 48], k: usize, n: usize) -> u64
+    requires { (n ≤ 8) × (k + n ≤ 48) }
     ensures { (result ≡ number_at b.now k n) × (result < 256 ^ n) }
 {
-    let e = k + n;
-    word(&b[k..e])
+    word(&b[k..k + n])
 }
 
 fn hint_from(h: u8) -> Hint
@@ -53,173 +53,151 @@ fn source_from(k: u8, x: u8, hi: u8) -> Source
     }
 }
 
-fn dst_at(b: &[u8], k: usize) -> Dst
-    requires { k + 4 ≤ length b.now }
+fn dst_at(b: &[u8; 48], k: usize) -> Dst
+    requires { k + 4 ≤ 48 }
     ensures { result ≡ dst_at b.now k }
 {
-    let d = destination_from(b[k], b[k + 2]);
-    let h = hint_from(b[k + 1]);
     Dst {
-        destination: d,
-        hint: h,
+        destination: destination_from(b[k], b[k + 2]),
+        hint: hint_from(b[k + 1]),
     }
 }
 
-fn src_at(b: &[u8], k: usize) -> Src
-    requires { k + 4 ≤ length b.now }
+fn src_at(b: &[u8; 48], k: usize) -> Src
+    requires { k + 4 ≤ 48 }
     ensures { result ≡ src_at b.now k }
 {
-    let s = source_from(b[k], b[k + 2], b[k + 3]);
-    let h = hint_from(b[k + 1]);
-    Src { source: s, hint: h }
+    Src {
+        source: source_from(b[k], b[k + 2], b[k + 3]),
+        hint: hint_from(b[k + 1]),
+    }
 }
 
-fn kept_from(b: &[u8]) -> u64
-    requires { length b.now ≡ 48 }
+fn kept_from(b: &[u8; 48]) -> u64
     ensures { result ≡ kept_from b.now }
 {
     number_at(b, 40, 8)
 }
 
-fn unary_from(b: &[u8]) -> Unary
-    requires { length b.now ≡ 48 }
+// Beside compared_from, and shift_from beside scan_from: they fill structs of two types, field by field.
+fn unary_from(b: &[u8; 48]) -> Unary
     ensures { result ≡ unary_from b.now }
 {
-    let d = dst_at(b, 4);
-    let a = src_at(b, 8);
-    Unary { d: d, a: a }
-}
-
-fn binary_from(b: &[u8]) -> Binary
-    requires { length b.now ≡ 48 }
-    ensures { result ≡ binary_from b.now }
-{
-    let d = dst_at(b, 4);
-    let x = src_at(b, 8);
-    let y = src_at(b, 12);
-    Binary { d: d, a: x, b: y }
-}
-
-fn ternary_from(b: &[u8]) -> Ternary
-    requires { length b.now ≡ 48 }
-    ensures { result ≡ ternary_from b.now }
-{
-    let d = dst_at(b, 4);
-    let x = src_at(b, 8);
-    let y = src_at(b, 12);
-    let z = src_at(b, 16);
-    Ternary {
-        d: d,
-        a: x,
-        b: y,
-        c: z,
+    Unary {
+        d: dst_at(b, 4),
+        a: src_at(b, 8),
     }
 }
 
-fn compared_from(b: &[u8]) -> Compared
-    requires { length b.now ≡ 48 }
-    ensures { result ≡ compared_from b.now }
+fn binary_from(b: &[u8; 48]) -> Binary
+    ensures { result ≡ binary_from b.now }
 {
-    let x = src_at(b, 8);
-    let y = src_at(b, 12);
-    Compared { a: x, b: y }
+    Binary {
+        d: dst_at(b, 4),
+        a: src_at(b, 8),
+        b: src_at(b, 12),
+    }
 }
 
-fn bitfield_from(b: &[u8]) -> Bitfield
-    requires { length b.now ≡ 48 }
+fn ternary_from(b: &[u8; 48]) -> Ternary
+    ensures { result ≡ ternary_from b.now }
+{
+    Ternary {
+        d: dst_at(b, 4),
+        a: src_at(b, 8),
+        b: src_at(b, 12),
+        c: src_at(b, 16),
+    }
+}
+
+fn compared_from(b: &[u8; 48]) -> Compared
+    ensures { result ≡ compared_from b.now }
+{
+    Compared {
+        a: src_at(b, 8),
+        b: src_at(b, 12),
+    }
+}
+
+fn bitfield_from(b: &[u8; 48]) -> Bitfield
     ensures { result ≡ bitfield_from b.now }
 {
-    let o = ternary_from(b);
     Bitfield {
-        operands: o,
+        operands: ternary_from(b),
         m: b[3],
         kept: kept_from(b),
     }
 }
 
-fn shift_from(b: &[u8]) -> Shift
-    requires { length b.now ≡ 48 }
+fn shift_from(b: &[u8; 48]) -> Shift
     ensures { result ≡ shift_from b.now }
 {
-    let o = binary_from(b);
     Shift {
-        operands: o,
+        operands: binary_from(b),
         kept: kept_from(b),
     }
 }
 
-fn scan_from(b: &[u8]) -> Scan
-    requires { length b.now ≡ 48 }
+fn scan_from(b: &[u8; 48]) -> Scan
     ensures { result ≡ scan_from b.now }
 {
-    let o = unary_from(b);
     Scan {
-        operands: o,
+        operands: unary_from(b),
         kept: kept_from(b),
     }
 }
 
-fn compare_from(b: &[u8]) -> Compare
-    requires { length b.now ≡ 48 }
+fn compare_from(b: &[u8; 48]) -> Compare
     ensures { result ≡ compare_from b.now }
 {
-    let h = hint_from(b[5]);
-    let o = compared_from(b);
     Compare {
-        hint: h,
+        hint: hint_from(b[5]),
         cc: b[34],
         ccn: b[35],
         n: b[36],
-        operands: o,
+        operands: compared_from(b),
         kept: kept_from(b),
     }
 }
 
-fn mov16_from(b: &[u8]) -> Instruction
-    requires { length b.now ≡ 48 }
+// Beside mov32_from: their immediates are of two widths, in two cases of Instruction.
+fn mov16_from(b: &[u8; 48]) -> Instruction
     ensures { result ≡ mov16_from b.now }
 {
-    let d = dst_at(b, 4);
     Instruction::Mov16 {
-        d: d,
+        d: dst_at(b, 4),
         imm16: number_at(b, 20, 2) as u16,
         l: b[2],
         kept: kept_from(b),
     }
 }
 
-fn mov32_from(b: &[u8]) -> Instruction
-    requires { length b.now ≡ 48 }
+fn mov32_from(b: &[u8; 48]) -> Instruction
     ensures { result ≡ mov32_from b.now }
 {
-    let d = dst_at(b, 4);
     Instruction::Mov32 {
-        d: d,
+        d: dst_at(b, 4),
         imm32: number_at(b, 20, 4) as u32,
         l: b[2],
         kept: kept_from(b),
     }
 }
 
-fn get_sr_from(b: &[u8]) -> Instruction
-    requires { length b.now ≡ 48 }
+fn get_sr_from(b: &[u8; 48]) -> Instruction
     ensures { result ≡ get_sr_from b.now }
 {
-    let d = dst_at(b, 4);
     Instruction::GetSr {
-        d: d,
+        d: dst_at(b, 4),
         sr: b[20],
         kept: kept_from(b),
     }
 }
 
-fn iadd_from(b: &[u8]) -> Instruction
-    requires { length b.now ≡ 48 }
+fn iadd_from(b: &[u8; 48]) -> Instruction
     ensures { result ≡ iadd_from b.now }
 {
-    let o = binary_from(b);
     Instruction::Iadd {
-        operands: o,
+        operands: binary_from(b),
         saturate: b[24],
         negate: b[25],
         a_signed: b[26],
@@ -229,13 +207,11 @@ fn iadd_from(b: &[u8]) -> Instruction
     }
 }
 
-fn imadd_from(b: &[u8]) -> Instruction
-    requires { length b.now ≡ 48 }
+fn imadd_from(b: &[u8; 48]) -> Instruction
     ensures { result ≡ imadd_from b.now }
 {
-    let o = ternary_from(b);
     Instruction::Imadd {
-        operands: o,
+        operands: ternary_from(b),
         saturate: b[24],
         negate: b[25],
         a_signed: b[26],
@@ -246,13 +222,11 @@ fn imadd_from(b: &[u8]) -> Instruction
     }
 }
 
-fn bitop_from(b: &[u8]) -> Instruction
-    requires { length b.now ≡ 48 }
+fn bitop_from(b: &[u8; 48]) -> Instruction
     ensures { result ≡ bitop_from b.now }
 {
-    let o = binary_from(b);
     Instruction::Bitop {
-        operands: o,
+        operands: binary_from(b),
         tt0: b[30],
         tt1: b[31],
         tt2: b[32],
@@ -262,53 +236,50 @@ fn bitop_from(b: &[u8]) -> Instruction
 }
 
 // The offset of a jump.
-fn off_from(b: &[u8]) -> u32
-    requires { length b.now ≡ 48 }
+fn off_from(b: &[u8; 48]) -> u32
     ensures { result ≡ number_at b.now 20 4 }
 {
     number_at(b, 20, 4) as u32
 }
 
-fn pop_exec_from(b: &[u8]) -> Instruction
-    requires { length b.now ≡ 48 }
+fn pop_exec_from(b: &[u8; 48]) -> Instruction
     ensures { result ≡ pop_exec_from b.now }
 {
-    let h = hint_from(b[5]);
     Instruction::PopExec {
-        hint: h,
+        hint: hint_from(b[5]),
         n: b[36],
         kept: kept_from(b),
     }
 }
 
 // The instruction of a kind from 1 to 22.
-pub fn instruction_from(kind: u8, b: &[u8]) -> Instruction
-    requires { (0 < kind) × (kind < 23) × (length b.now ≡ 48) }
+#[tactic(auto, unfolding(crate::specs::Read::instruction_from))]
+pub fn instruction_from(kind: u8, b: &[u8; 48]) -> Instruction
+    requires { (0 < kind) × (kind < 23) }
     ensures { result ≡ instruction_from kind b.now }
 {
-    let place = kind - 1;
-    match place {
-        0 => mov16_from(b),
-        1 => mov32_from(b),
-        2 => get_sr_from(b),
-        3 => iadd_from(b),
-        4 => imadd_from(b),
-        5 => Instruction::Bfi(bitfield_from(b)),
-        6 => Instruction::Bfeil(bitfield_from(b)),
-        7 => Instruction::Extr(bitfield_from(b)),
-        8 => Instruction::Shlhi(bitfield_from(b)),
-        9 => Instruction::Shrhi(bitfield_from(b)),
-        10 => Instruction::Asr(shift_from(b)),
-        11 => Instruction::Asrh(shift_from(b)),
-        12 => bitop_from(b),
-        13 => Instruction::Bitrev(scan_from(b)),
-        14 => Instruction::Popcount(scan_from(b)),
-        15 => Instruction::Ffs(scan_from(b)),
-        16 => Instruction::JmpExecAny { off: off_from(b) },
-        17 => Instruction::JmpExecNone { off: off_from(b) },
-        18 => pop_exec_from(b),
-        19 => Instruction::IfIcmp(compare_from(b)),
-        20 => Instruction::WhileIcmp(compare_from(b)),
+    match kind {
+        1 => mov16_from(b),
+        2 => mov32_from(b),
+        3 => get_sr_from(b),
+        4 => iadd_from(b),
+        5 => imadd_from(b),
+        6 => Instruction::Bfi(bitfield_from(b)),
+        7 => Instruction::Bfeil(bitfield_from(b)),
+        8 => Instruction::Extr(bitfield_from(b)),
+        9 => Instruction::Shlhi(bitfield_from(b)),
+        10 => Instruction::Shrhi(bitfield_from(b)),
+        11 => Instruction::Asr(shift_from(b)),
+        12 => Instruction::Asrh(shift_from(b)),
+        13 => bitop_from(b),
+        14 => Instruction::Bitrev(scan_from(b)),
+        15 => Instruction::Popcount(scan_from(b)),
+        16 => Instruction::Ffs(scan_from(b)),
+        17 => Instruction::JmpExecAny { off: off_from(b) },
+        18 => Instruction::JmpExecNone { off: off_from(b) },
+        19 => pop_exec_from(b),
+        20 => Instruction::IfIcmp(compare_from(b)),
+        21 => Instruction::WhileIcmp(compare_from(b)),
         _ => Instruction::ElseIcmp(compare_from(b)),
     }
 }

@@ -10,8 +10,9 @@ ghost use Rattle.operations.specs.Action.{meaning_by};
 ghost use Rattle.jumps.specs.AsGoing.{as_going};
 ghost use Rattle.going.specs.Discards.{hinted, discarding};
 
+use isa::answer::Refusal;
 use isa::operand::Hint;
-use jumps::Going;
+use jumps::Class;
 use machine::input::Input;
 use operations::action::{Action, Kind};
 
@@ -19,21 +20,12 @@ use operations::action::{Action, Kind};
 pub fn registers_reach(action: Action) -> u16
     ensures { result ≡ registers_reach (meaning_by action) }
 {
-    let kind = action.kind;
-    let d = action.d;
-    let a = action.a;
-    let b = action.b;
-    let c = action.c;
-    match kind {
-        Kind::Writes => reach::most4(
-            reach::destination(d),
-            reach::input(a),
-            reach::input(b),
-            reach::input(c),
-        ),
-        Kind::Masks => reach::most3(1, reach::input(a), reach::input(b)),
-        Kind::JumpsIfAny => 0,
-        Kind::JumpsIfNone => 0,
+    let a = reach::input(action.a);
+    let b = reach::input(action.b);
+    match action.kind {
+        Kind::Writes => reach::destination(action.d).max(a.max(b.max(reach::input(action.c)))),
+        Kind::Masks => 1.max(a.max(b)),
+        Kind::JumpsIfAny | Kind::JumpsIfNone => 0,
     }
 }
 
@@ -41,15 +33,12 @@ pub fn registers_reach(action: Action) -> u16
 pub fn specials_reach(action: Action) -> u16
     ensures { result ≡ specials_reach (meaning_by action) }
 {
-    let kind = action.kind;
-    let a = action.a;
-    let b = action.b;
-    let c = action.c;
-    match kind {
-        Kind::Writes => reach::most3(reach::special(a), reach::special(b), reach::special(c)),
-        Kind::Masks => reach::most(reach::special(a), reach::special(b)),
-        Kind::JumpsIfAny => 0,
-        Kind::JumpsIfNone => 0,
+    let a = reach::special(action.a);
+    let b = reach::special(action.b);
+    match action.kind {
+        Kind::Writes => a.max(b.max(reach::special(action.c))),
+        Kind::Masks => a.max(b),
+        Kind::JumpsIfAny | Kind::JumpsIfNone => 0,
     }
 }
 
@@ -57,16 +46,8 @@ fn discards_in(x: Input) -> bool
     ensures { result ≡ hinted x }
 {
     match x {
-        Input::Nothing => false,
-        Input::Operand(a) => {
-            let hint = a.hint;
-            match hint {
-                Hint::None => false,
-                Hint::Cache => false,
-                Hint::Discard => true,
-            }
-        }
-        Input::Special(_) => false,
+        Input::Operand(a) => matches!(a.hint, Hint::Discard),
+        Input::Nothing | Input::Special(_) => false,
     }
 }
 
@@ -74,37 +55,43 @@ fn discards_in(x: Input) -> bool
 pub fn discards(action: Action) -> bool
     ensures { result ≡ discarding action }
 {
-    let a = action.a;
-    if discards_in(a) {
-        return true;
-    }
-    let b = action.b;
-    if discards_in(b) {
-        return true;
-    }
-    let c = action.c;
-    discards_in(c)
+    discards_in(action.a) || discards_in(action.b) || discards_in(action.c)
 }
 
-fn jumps_to(any: bool, off: u32, length: usize, bytes: usize, address: usize, mask: u32) -> Going
+#[tactic(auto, unfolding(machine::specs::Step::going_of))]
+fn jumps_to(
+    any: bool,
+    off: u32,
+    length: usize,
+    bytes: usize,
+    address: usize,
+    mask: u32,
+) -> Result<(usize, Class), Refusal>
     requires { (address < 2 ^ 32) × (bytes < 2 ^ 32) }
     ensures { as_going result ≡ going_of (jumps any (sign_extend off 32)) length bytes address mask }
 {
     if jumps::taken(any, mask) {
         jumps::landing(length, address, off)
     } else {
-        Going::To(address + bytes, 3)
+        Ok((address + bytes, Class::JumpNotTaken))
     }
 }
 
-pub fn goes_to(action: Action, length: usize, bytes: usize, address: usize, mask: u32) -> Going
+// The address to go on at, with the class of the step, or the refusal.
+#[tactic(auto, unfolding(machine::specs::Step::going_of))]
+pub fn goes_to(
+    action: Action,
+    length: usize,
+    bytes: usize,
+    address: usize,
+    mask: u32,
+) -> Result<(usize, Class), Refusal>
     requires { (address < 2 ^ 32) × (bytes < 2 ^ 32) }
     ensures { as_going result ≡ going_of (meaning_by action) length bytes address mask }
 {
-    let kind = action.kind;
-    match kind {
-        Kind::Writes => Going::To(address + bytes, 1),
-        Kind::Masks => Going::To(address + bytes, 2),
+    match action.kind {
+        Kind::Writes => Ok((address + bytes, Class::Data)),
+        Kind::Masks => Ok((address + bytes, Class::Mask)),
         Kind::JumpsIfAny => jumps_to(true, action.off, length, bytes, address, mask),
         Kind::JumpsIfNone => jumps_to(false, action.off, length, bytes, address, mask),
     }

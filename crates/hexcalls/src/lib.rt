@@ -6,9 +6,10 @@ ghost use Rattle.hexrow.specs.Row.{fault_number};
 ghost use Rattle.hexcalls.specs.Calls.{row_told, ReadsHex, WritesHex};
 
 use bits::piece;
-use hexfile::{Reading, Writing};
+use hexfile::ReadError;
 use hexrow::Fault;
 
+// The numbers of the C interface.
 fn refused(f: Fault) -> i32
     ensures { result ≡ neg_ℤ (pos (fault_number f)) }
 {
@@ -35,12 +36,12 @@ pub fn hex_read(text: &[u8], code: &mut [u8], row: &mut [u8]) -> i32
     ensures { ReadsHex text.now code.old row.old result code.new row.new }
 {
     match hexfile::read(text, code) {
-        Reading::Kernel(n) => n as i32,
-        Reading::BadRow(k, f) => {
+        Ok(n) => n as i32,
+        Err(ReadError::BadRow(k, f)) => {
             tell(row, k);
             refused(f)
         }
-        Reading::BadSize => -1,
+        Err(ReadError::BadSize) => -1,
     }
 }
 
@@ -49,7 +50,7 @@ pub fn hex_write(code: &[u8], text: &mut [u8]) -> i32
     ensures { WritesHex code.now text.old result text.new }
 {
     match hexfile::write(code, text) {
-        Writing::Text(n) => n as i32,
-        Writing::BadSize => -1,
+        Some(n) => n as i32,
+        None => -1,
     }
 }

@@ -1,4 +1,5 @@
 -- A walk over the rows of a text: what the text holds, from the place that was reached on.
+use Rattle.std.specs.Prelude.{Result, Ok, Err}
 use mathlib.Core.Path.{◌≡◌, refl, sym, ap, ◌∙◌}
 use mathlib.Core.Bool.{Bool, true, false}
 use mathlib.Core.List.{List, [], ◌∷◌, ◌++◌}
@@ -81,18 +82,18 @@ known_first text = record { code = []; size = refl; reached = start text }
 
 module _ (text : List ℕ) (at row n : ℕ) (h : at < length text) (w : Known text at row n) where
   -- what was answered of the row, by the bytes before it
-  of_code : (x : Row) → row_at n (drop at text) ≡ x → row_at (length w.code) (drop at text) ≡ x
+  of_code : (x : Result Row Fault) → row_at n (drop at text) ≡ x → row_at (length w.code) (drop at text) ≡ x
   of_code x e = rw w.size e
 
-  pub row_data : (m k : ℕ) → row_at n (drop at text) ≡ Row.Data m k → IsData (length w.code) m k (drop at text)
-  row_data m k e = data_row (length w.code) m k (drop at text) (of_code (Row.Data m k) e)
+  pub row_data : (m k : ℕ) → row_at n (drop at text) ≡ Ok (Row.Data m k) → IsData (length w.code) m k (drop at text)
+  row_data m k e = data_row (length w.code) m k (drop at text) (of_code (Ok (Row.Data m k)) e)
 
-  pub room_for : (m k : ℕ) → row_at n (drop at text) ≡ Row.Data m k → (2 * m + 12 ≤ k) × (at + k ≤ length text)
+  pub room_for : (m k : ℕ) → row_at n (drop at text) ≡ Ok (Row.Data m k) → (2 * m + 12 ≤ k) × (at + k ≤ length text)
   room_for m k e =
       let d = row_data m k e in
       (d.room, omega (arith, within text at row w.code h w.reached, d.size))
 
-  abbrev pub known_more : (m k : ℕ) → row_at n (drop at text) ≡ Row.Data m k → Known text (at + k) (row + 1) (n + m)
+  abbrev pub known_more : (m k : ℕ) → row_at n (drop at text) ≡ Ok (Row.Data m k) → Known text (at + k) (row + 1) (n + m)
   known_more m k e =
       let b = spelled m (drop 9 (drop at text)) in
       record {
@@ -101,9 +102,9 @@ module _ (text : List ℕ) (at row n : ℕ) (h : at < length text) (w : Known te
         reached = more text at row w.code h w.reached m k (row_data m k e);
       }
 
-  module _ (k : ℕ) (e : row_at n (drop at text) ≡ Row.End k) where
+  module _ (k : ℕ) (e : row_at n (drop at text) ≡ Ok (Row.End k)) where
     last : (says_of (length w.code) (line_of (drop at text)) ≡ ends) × (k ≡ length (line_of (drop at text)))
-    last = end_row_lem (length w.code) k (drop at text) (of_code (Row.End k) e)
+    last = end_row_lem (length w.code) k (drop at text) (of_code (Ok (Row.End k)) e)
 
     pub end-within : at + k ≤ length text
     end-within = omega (arith, within text at row w.code h w.reached, last.1)
@@ -114,9 +115,9 @@ module _ (text : List ℕ) (at row n : ℕ) (h : at < length text) (w : Known te
     pub not-whole : (at + k ≡ length text → ⊥) → read_of text ≡ bad_row (row + 1) (fault 14)
     not-whole = followed text at row w.code h w.reached k last.0 last.1
 
-  pub bad-at : (f : Fault) → row_at n (drop at text) ≡ Row.Bad f → read_of text ≡ bad_row row f
+  pub bad-at : (f : Fault) → row_at n (drop at text) ≡ Err f → read_of text ≡ bad_row row f
   bad-at f e =
-      refused text at row w.code h w.reached f (bad_row_lem (length w.code) (drop at text) f (of_code (Row.Bad f) e))
+      refused text at row w.code h w.reached f (bad_row_lem (length w.code) (drop at text) f (of_code (Err f) e))
 
 -- ---- a text that holds a kernel
 
@@ -143,7 +144,7 @@ module _ (text all : List ℕ) (holds-it : read_of text ≡ kernel all) where
   pub no_bad_row : (row : ℕ) (f : Fault) → read_of text ≡ bad_row row f → ⊥
   no_bad_row row f e = never (cc)
 
-  pub all_there : (at row n k : ℕ) → at < length text → (w : Known text at row n) → row_at n (drop at text) ≡ Row.End k → w.code ≡ all
+  pub all_there : (at row n k : ℕ) → at < length text → (w : Known text at row n) → row_at n (drop at text) ≡ Ok (Row.End k) → w.code ≡ all
   all_there at row n k h w e = go (eqb (at + k) (length text)) refl
     where
       go : (b : Bool) → eqb (at + k) (length text) ≡ b → w.code ≡ all

@@ -1,9 +1,9 @@
 -- Reading Intel HEX: what a text holds, and what the call answers and leaves. Follows "Kernels arrive as Intel HEX" of the change requests.
 -- The text is taken line by line; a line is a row.
-use Rattle.std.specs.Prelude.{ℕ, suc, Bool, cond, ◌&&◌, List, [], ◌∷◌, ◌++◌, eqb, leb, length, drop}
+use Rattle.std.specs.Prelude.{ℕ, suc, Bool, cond, ◌&&◌, List, [], ◌∷◌, ◌++◌, eqb, leb, length, drop, Result, Ok, Err}
 use Rattle.hexrow.specs.Row.{fault, Says, holds, ends, bad, says_of}
 use Rattle.hexrow.specs.declared.Fault.{Fault}
-use Rattle.hexfile.specs.declared.Reading.{Reading}
+use Rattle.hexfile.specs.declared.ReadError.{ReadError}
 
 -- ---- lines
 
@@ -55,16 +55,16 @@ limit = 8192
 abbrev pub taken : List ℕ → ℕ → Bool
 taken code room = leb (length code) limit && leb (length code) room
 
-abbrev pub reading_by : Contents → ℕ → Reading
-reading_by (kernel code) room = cond (taken code room) (Reading.Kernel (length code)) Reading.BadSize
-reading_by (bad_row row f) room = Reading.BadRow row f
+abbrev pub reading_by : Contents → ℕ → Result ℕ ReadError
+reading_by (kernel code) room = cond (taken code room) (Ok (length code)) (Err ReadError.BadSize)
+reading_by (bad_row row f) room = Err (ReadError.BadRow row f)
 
 abbrev pub left_by : Contents → List ℕ → List ℕ
 left_by (kernel code) old = cond (taken code (length old)) (code ++ drop (length code) old) old
 left_by (bad_row row f) old = old
 
 -- what reading answers, and what it leaves in the buffer: the kernel at its start, or what stood there
-abbrev pub reading_of : List ℕ → ℕ → Reading
+abbrev pub reading_of : List ℕ → ℕ → Result ℕ ReadError
 reading_of text room = reading_by (read_of text) room
 
 abbrev pub kernel_left : List ℕ → List ℕ → List ℕ

@@ -1,11 +1,11 @@
 -- What the two walks over the rows of a text answer, in the shape of the code.
-use Rattle.std.specs.Prelude.{ℕ, List, [], length}
+use Rattle.std.specs.Prelude.{ℕ, List, [], length, Result, Ok, Err}
 use Rattle.hexfile.specs.Read.{Contents, kernel, bad_row}
-use Rattle.hexfile.specs.declared.Reading.{Reading}
+use Rattle.hexfile.specs.declared.ReadError.{ReadError}
 
-abbrev pub seen_by : Contents → Reading
-seen_by (kernel code) = Reading.Kernel (length code)
-seen_by (bad_row row f) = Reading.BadRow row f
+abbrev pub seen_by : Contents → Result ℕ ReadError
+seen_by (kernel code) = Ok (length code)
+seen_by (bad_row row f) = Err (ReadError.BadRow row f)
 
 -- the kernel; nothing where there is none
 abbrev pub kernel_in : Contents → List ℕ

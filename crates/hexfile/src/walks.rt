@@ -4,33 +4,34 @@ ghost use Rattle.std.proofs.lemmas.List.Edits.{sets};
 ghost use Rattle.hexfile.specs.Read.{kernel, read_of};
 ghost use Rattle.hexfile.specs.Rows.{seen_by, kernel_in};
 
-use crate::Reading;
+use crate::ReadError;
 use hexrow::{Fault, Row, row_at};
 
-// What the text holds, with the number of bytes of the kernel.
-pub fn check(text: &[u8]) -> Reading
+// The number of bytes of the kernel that the text holds.
+pub fn check(text: &[u8]) -> Result<usize, ReadError>
     ensures { result ≡ seen_by (read_of text.now) }
 {
     let mut row = 1;
     let mut n = 0;
     let mut at = 0;
+    // A `while`: it goes on by the size of the row at hand, which no range or iterator knows.
     while at < text.len() {
         match row_at(text, at, n) {
-            Row::Data(count, size) => {
+            Ok(Row::Data { count, size }) => {
                 row += 1;
                 n += count;
                 at += size;
             }
-            Row::End(size) => {
+            Ok(Row::End { size }) => {
                 if at + size == text.len() {
-                    return Reading::Kernel(n);
+                    return Ok(n);
                 }
-                return Reading::BadRow(row + 1, Fault::Order);
+                return Err(ReadError::BadRow(row + 1, Fault::Order));
             }
-            Row::Bad(f) => return Reading::BadRow(row, f),
+            Err(f) => return Err(ReadError::BadRow(row, f)),
         }
     }
-    Reading::BadRow(row, Fault::Order)
+    Err(ReadError::BadRow(row, Fault::Order))
 }
 
 // Puts the kernel of a text that holds one into a buffer.
@@ -40,15 +41,16 @@ pub fn fill(text: &[u8], out: &mut [u8])
 {
     let mut n = 0;
     let mut at = 0;
+    // A `while`: it goes on by the size of the row at hand, which no range or iterator knows.
     while at < text.len() {
         match row_at(text, at, n) {
-            Row::Data(count, size) => {
+            Ok(Row::Data { count, size }) => {
                 hexpairs::put(out, n, text, at + 9, count);
                 n += count;
                 at += size;
             }
-            Row::End(_) => return,
-            Row::Bad(_) => return,
+            Ok(Row::End { .. }) => return,
+            Err(_) => return,
         }
     }
 }

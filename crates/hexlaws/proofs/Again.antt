@@ -1,4 +1,5 @@
 -- What is written is read again: the text of a kernel holds that kernel, and no two kernels have one text.
+use Rattle.std.specs.Prelude.{Result, Ok}
 use mathlib.Core.Path.{◌≡◌, refl, sym, ap, ◌∙◌}
 use mathlib.Core.Bool.{Bool, true, false}
 use mathlib.Core.List.{List, [], ◌∷◌, ◌++◌, append_assoc, append-nil}
@@ -17,7 +18,7 @@ use Rattle.hexrow.specs.Row.{data_of}
 use Rattle.hexwrite.specs.Write.{sum_for, head_of, with_sum, row_for, end_row, rows_from, hex_of}
 use Rattle.hexfile.specs.Read.{kernel, limit, read_of, reading_of, kernel_left}
 use Rattle.hexcalls.specs.Calls.{reading_back, row_left, ReadsHex, WritesHex}
-use Rattle.hexfile.specs.declared.Reading.{Reading}
+use Rattle.hexfile.specs.declared.ReadError.{ReadError}
 use Rattle.hexlaws.specs.Form.{Digit, decimal, upper, Spells, none, pair, feed, IsRow, RightSum, DataRows, Holds, whole}
 use Rattle.hexlaws.proofs.Exactly.{right}
 
@@ -135,7 +136,7 @@ module _ (code : List ℕ) (h : Bytes code) (short : length code ≤ limit) wher
 
   -- so reading it gives the kernel back, in every buffer with room
   pub read_again : (old : List ℕ) → length code ≤ length old
-      → (reading_of (hex_of code) (length old) ≡ Reading.Kernel (length code)) × (kernel_left (hex_of code) old ≡ code ++ drop (length code) old)
+      → (reading_of (hex_of code) (length old) ≡ Ok (length code)) × (kernel_left (hex_of code) old ≡ code ++ drop (length code) old)
   read_again old room =
       let t = le-leb (length code) limit short in
       let u = le-leb (length code) (length old) room in
@@ -155,11 +156,11 @@ exported_again code text text' old row code' row' n r h w room x =
     went : length code ≤ limit → take n text' ≡ hex_of code → (r ≡ pos (length code)) × (code' ≡ code ++ drop (length code) old) × (row' ≡ row)
     went l e =
         let a = read_again code h l old room in
-        let f : reading_of (take n text') (length old) ≡ Reading.Kernel (length code) =
+        let f : reading_of (take n text') (length old) ≡ Ok (length code) =
         ap (λ (t : List ℕ). reading_of t (length old)) e ∙ a.0 in (
           x.returns ∙ ap reading_back f,
           x.leaves ∙ ap (λ (t : List ℕ). kernel_left t old) e ∙ a.1,
-          x.tells ∙ ap (λ (y : Reading). row_left y row) f,
+          x.tells ∙ ap (λ (y : Result ℕ ReadError). row_left y row) f,
         )
 
     go : (a b : Bool) → leb (length code) limit ≡ a → leb (length (hex_of code)) (length text) ≡ b

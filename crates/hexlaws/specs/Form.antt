@@ -1,12 +1,12 @@
 -- The form of Intel HEX as statements, each by itself, without an order of tests: what a row is, which text holds a kernel, which row is bad and
 -- why. Follows "Kernels arrive as Intel HEX" of the change requests. Of the definition of reading it takes the fields of a row's bytes and the
 -- first line of a text, and no test.
-use Rattle.std.specs.Prelude.{ℕ, suc, ◌+◌, ◌*◌, ◌%◌, ◌≤◌, ◌<◌, ◌≡◌, List, [], ◌∷◌, ◌++◌, ◌⊎◌, length, get_or}
+use Rattle.std.specs.Prelude.{ℕ, suc, ◌+◌, ◌*◌, ◌%◌, ◌≤◌, ◌<◌, ◌≡◌, List, [], ◌∷◌, ◌++◌, ◌⊎◌, length, get_or, Result, Ok, Err}
 use Rattle.hexpairs.specs.Pairs.{total}
 use Rattle.hexrow.specs.Row.{fault, address_of, type_of, data_of, line_of}
 use Rattle.hexrow.specs.declared.Fault.{Fault}
 use Rattle.hexfile.specs.Read.{Contents, kernel, bad_row, limit}
-use Rattle.hexfile.specs.declared.Reading.{Reading}
+use Rattle.hexfile.specs.declared.ReadError.{ReadError}
 
 -- ---- a row
 
@@ -75,9 +75,9 @@ pub data Holds : List ℕ → Contents → Type 0 where
 -- ---- the call
 
 -- what reading a text into a buffer with some room answers; 1 is given only where no row is bad
-pub data Answers : List ℕ → ℕ → Reading → Type 0 where
+pub data Answers : List ℕ → ℕ → Result ℕ ReadError → Type 0 where
   took : {text code : List ℕ} {room : ℕ} → Holds text (kernel code) → length code ≤ limit → length code ≤ room
-      → Answers text room (Reading.Kernel (length code))
+      → Answers text room (Ok (length code))
   no_size : {text code : List ℕ} {room : ℕ} → Holds text (kernel code) → (limit < length code) ⊎ (room < length code)
-      → Answers text room Reading.BadSize
-  no_form : {text : List ℕ} {room row : ℕ} {f : Fault} → Holds text (bad_row row f) → Answers text room (Reading.BadRow row f)
+      → Answers text room (Err ReadError.BadSize)
+  no_form : {text : List ℕ} {room row : ℕ} {f : Fault} → Holds text (bad_row row f) → Answers text room (Err (ReadError.BadRow row f))

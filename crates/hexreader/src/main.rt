@@ -8,7 +8,7 @@ ghost use Rattle.hexreader.specs.Digits.{last_digits};
 ghost use Rattle.hexreader.specs.Program.{Reads};
 ghost use Rattle.hexrow.specs.Row.{fault_number};
 
-use hexfile::Reading;
+use hexfile::ReadError;
 use hexrow::Fault;
 use std::io;
 use std::io::{Read, Write};
@@ -16,7 +16,7 @@ use std::io::{Read, Write};
 // The most characters of a text that is taken. A kernel of 8,192 bytes has 122,893 in rows of one byte with carriage returns.
 const LIMIT: usize = 131072;
 
-// What is said of a bad row before its number.
+// What is said of a bad row before its number: whole texts, since the numbers have two digits each.
 fn words(f: Fault) -> [u8; 15]
     ensures { result ≡ ascii "refused " ++ last_digits 10 2 (fault_number f) ++ ascii " row " }
 {
@@ -29,32 +29,33 @@ fn words(f: Fault) -> [u8; 15]
 
 // What is answered to the text; its kernel is written. A text with one character more than the most that are taken, or after a read that
 // failed, is too long.
-fn read_file<R: Read, W: Write>(file: &mut R, output: &mut W) -> io::Result<Reading>
+fn read_file<R: Read, W: Write>(
+    file: &mut R,
+    output: &mut W,
+) -> io::Result<Result<usize, ReadError>>
     ensures { IfOk result (λ answer. Reads (R.remaining file.old) (W.contents output.old) (W.contents output.new) answer) }
 {
     let mut text = [0u8; LIMIT + 1];
     let n = input::read_all(file, &mut text);
     let mut code = [0u8; hexfile::LIMIT];
     if LIMIT < n {
-        return Ok(Reading::BadSize);
+        return Ok(Err(ReadError::BadSize));
     }
-    match hexfile::read(&text[..n], &mut code) {
-        Reading::Kernel(k) => {
-            output.write_all(&code[..k])?;
-            Ok(Reading::Kernel(k))
-        }
-        refused => Ok(refused),
+    let read = hexfile::read(&text[..n], &mut code);
+    if let Ok(k) = read {
+        output.write_all(&code[..k])?;
     }
+    Ok(read)
 }
 
 fn main(rt: HostRuntime) {
     match read_file(&mut rt.stdin(), &mut rt.stdout()) {
-        Ok(Reading::Kernel(_)) => {}
-        Ok(Reading::BadRow(row, f)) => {
+        Ok(Ok(_)) => {}
+        Ok(Err(ReadError::BadRow(row, f))) => {
             let _ = rt.stderr().write_all(&words(f));
             let _ = rt.eprintln(row);
         }
-        Ok(Reading::BadSize) => {
+        Ok(Err(ReadError::BadSize)) => {
             let _ = rt.stderr().write_all(b"refused 1\n");
         }
         Err(_) => {

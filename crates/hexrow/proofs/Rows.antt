@@ -1,4 +1,5 @@
 -- The row that the first line of a text is, by what stands at the start of the text.
+use Rattle.std.specs.Prelude.{Ok, Err}
 use mathlib.Core.Path.{◌≡◌, refl, sym, ap, ◌∙◌}
 use mathlib.Core.Bool.{Bool, true, false, cond, ◌&&◌}
 use mathlib.Core.List.{List, [], ◌∷◌}
@@ -115,11 +116,11 @@ module _ (s : List ℕ) (r : At s) where
   pub at_row : (next : ℕ) → row_at next s ≡ told (summed next (spelled (count s + 5) (drop 1 s))) (body s + end_size (drop (body s) s))
   at_row next = rw (at-says next, line_length)
 
-pub no_row : (next : ℕ) (s : List ℕ) → (At s → ⊥) → Row.Bad Fault.Form ≡ row_at next s
+pub no_row : (next : ℕ) (s : List ℕ) → (At s → ⊥) → Err Fault.Form ≡ row_at next s
 unfolding says_of
 no_row next s h = go (formed (line_of s)) refl
   where
-    go : (b : Bool) → formed (line_of s) ≡ b → Row.Bad Fault.Form ≡ row_at next s
+    go : (b : Bool) → formed (line_of s) ≡ b → Err Fault.Form ≡ row_at next s
     go true e = absurd (h (at-formed s e))
     go false e = rw e
 
@@ -234,7 +235,7 @@ module _ (n : ℕ) (t : List ℕ) (e : pair_value t ≡ n) where
 
 told-by : (b c : Bool) (d : List ℕ) (size : ℕ)
     → told (cond b (holds d) (cond c ends (bad (fault 14)))) size
-    ≡ cond b (Row.Data (length d) size) (cond c (Row.End size) (Row.Bad (fault 14)))
+    ≡ cond b (Ok (Row.Data (length d) size)) (cond c (Ok (Row.End size)) (Err (fault 14)))
 told-by true c d size = refl
 told-by false true d size = refl
 told-by false false d size = refl

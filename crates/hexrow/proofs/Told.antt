@@ -1,4 +1,5 @@
 -- What an answer says of the first line of a text: a row of data, the end row, a bad row.
+use Rattle.std.specs.Prelude.{Ok, Err}
 use mathlib.Core.Path.{◌≡◌, refl, sym, ap, ◌∙◌}
 use mathlib.Core.Bool.{Bool, true, false, cond, ◌&&◌}
 use mathlib.Core.List.{List}
@@ -23,23 +24,23 @@ never e = absurd (omega arith)
 
 -- ---- the answer taken back
 
-told_data : (x : Says) (size n k : ℕ) → told x size ≡ Row.Data n k → (b : List ℕ) × (x ≡ holds b) × (length b ≡ n) × (size ≡ k)
+told_data : (x : Says) (size n k : ℕ) → told x size ≡ Ok (Row.Data n k) → (b : List ℕ) × (x ≡ holds b) × (length b ≡ n) × (size ≡ k)
 told_data (holds b) size n k e = (b, refl, (cc), (cc))
 told_data ends size n k e = never (cc)
 told_data (bad f) size n k e = never (cc)
 
-pub end_row_lem : (next k : ℕ) (s : List ℕ) → row_at next s ≡ Row.End k → (says_of next (line_of s) ≡ ends) × (k ≡ length (line_of s))
+pub end_row_lem : (next k : ℕ) (s : List ℕ) → row_at next s ≡ Ok (Row.End k) → (says_of next (line_of s) ≡ ends) × (k ≡ length (line_of s))
 end_row_lem next k s e = go (says_of next (line_of s)) e
   where
-    go : (x : Says) → told x (length (line_of s)) ≡ Row.End k → (x ≡ ends) × (k ≡ length (line_of s))
+    go : (x : Says) → told x (length (line_of s)) ≡ Ok (Row.End k) → (x ≡ ends) × (k ≡ length (line_of s))
     go (holds b) f = never (cc)
     go ends f = (refl, (cc))
     go (bad g) f = never (cc)
 
-pub bad_row_lem : (next : ℕ) (s : List ℕ) (f : Fault) → row_at next s ≡ Row.Bad f → says_of next (line_of s) ≡ bad f
+pub bad_row_lem : (next : ℕ) (s : List ℕ) (f : Fault) → row_at next s ≡ Err f → says_of next (line_of s) ≡ bad f
 bad_row_lem next s f e = go (says_of next (line_of s)) e
   where
-    go : (x : Says) → told x (length (line_of s)) ≡ Row.Bad f → x ≡ bad f
+    go : (x : Says) → told x (length (line_of s)) ≡ Err f → x ≡ bad f
     go (holds b) g = never (cc)
     go ends g = never (cc)
     go (bad h) g = cc
@@ -76,7 +77,7 @@ pairs-last (suc a) b t e =
     let h = pairs-last a b (drop 2 t) (first_pair (a + b) t (rw f at e)).1 in
     rw (← g, ← (drop-drop (2 * a) 2 t)) h
 
-pairs_front : (a b : ℕ) (t : List ℕ) → pairs (a + b) t ≡ true → pairs a t ≡ true
+pub pairs_front : (a b : ℕ) (t : List ℕ) → pairs (a + b) t ≡ true → pairs a t ≡ true
 unfolding pairs
 pairs_front zero b t e = refl
 pairs_front (suc a) b t e =
@@ -90,7 +91,7 @@ pub record IsData (next n k : ℕ) (s : List ℕ) : Type 0 where
   pub size : k ≡ length (line_of s)
   pub room : 2 * n + 12 ≤ k
 
-pub data_row : (next n k : ℕ) (s : List ℕ) → row_at next s ≡ Row.Data n k → IsData next n k s
+pub data_row : (next n k : ℕ) (s : List ℕ) → row_at next s ≡ Ok (Row.Data n k) → IsData next n k s
 data_row next n k s e =
     let t = told_data (says_of next (line_of s)) (length (line_of s)) n k e in
     let r = holds_at next s t.0 t.1 in

@@ -4,24 +4,31 @@ ghost use Rattle.hexrow.specs.Reads.{says_by};
 
 use crate::{Fault, Row};
 
-pub fn says(kind: usize, address: usize, count: usize, next: usize, size: usize) -> Row
+// The kind is the number that the row has at its type: every other than 0 and 1 has to be refused.
+pub fn says(
+    kind: usize,
+    address: usize,
+    count: usize,
+    next: usize,
+    size: usize,
+) -> Result<Row, Fault>
     ensures { result ≡ says_by kind address count next size }
 {
     if kind == 0 {
         if address == next {
-            return Row::Data(count, size);
+            return Ok(Row::Data { count, size });
         }
-        return Row::Bad(Fault::Order);
+        return Err(Fault::Order);
     }
     if kind != 1 {
-        return Row::Bad(Fault::Order);
+        return Err(Fault::Order);
     }
     if address != 0 {
-        return Row::Bad(Fault::Order);
+        return Err(Fault::Order);
     }
     if count == 0 {
-        Row::End(size)
+        Ok(Row::End { size })
     } else {
-        Row::Bad(Fault::Order)
+        Err(Fault::Order)
     }
 }

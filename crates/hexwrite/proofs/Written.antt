@@ -1,13 +1,9 @@
 -- The rows of a kernel from an address on: the row that begins there, and the rows from the next address on; how long they are.
-use mathlib.Core.Path.{◌≡◌, refl, sym, ap, ◌∙◌}
-use mathlib.Core.Bool.{Bool, true, false}
+use mathlib.Core.Path.{◌≡◌, refl, ap, ◌∙◌}
 use mathlib.Core.List.{List, [], ◌∷◌, ◌++◌}
-use Prim.Native.Nat.{ℕ, zero, suc, ◌+◌, ◌*◌, ◌-◌, ◌/◌, ◌≤◌, ◌<◌, min}
+use Prim.Native.Nat.{ℕ, zero, suc, ◌+◌, ◌*◌, ◌/◌, ◌≤◌, ◌<◌, min}
 use native.Mathlib.Omega.{arith}
-use lib.Dec.{leb}
-use lib.ListN.{length, take, drop, length-append, length-take, length-drop, drop_of_length-le}
-use lib.Seq.{drop-drop, take_all}
-use borrow.Author.Tests.{leb-true, leb-false}
+use lib.ListN.{length, take, drop, length-append, length-take, length-drop}
 use Rattle.digits.specs.Digits.{hex_bytes}
 use Rattle.digits.proofs.Digits.{length-hex_bytes}
 use Rattle.hexwrite.specs.Write.{head_of, with_sum, sum_for, row_for, end_row, rows_from, hex_of}
@@ -29,7 +25,7 @@ enough (suc k) (suc m) at (b ∷ s) h g =
 pub rows_all : ℕ → List ℕ → List ℕ
 rows_all at s = rows_from (length s) at s
 
-pub all-rows : (code : List ℕ) → rows_all 0 (drop 0 code) ≡ hex_of code
+pub all-rows : (code : List ℕ) → rows_all 0 code ≡ hex_of code
 unfolding rows_all hex_of
 all-rows code = refl
 
@@ -41,38 +37,29 @@ first_row at (b ∷ s) h =
     ap (λ (t : List ℕ). row_for 0 at (take 16 (b ∷ s)) ++ t)
     (enough (length s) (length (drop 16 (b ∷ s))) (at + 16) (drop 16 (b ∷ s)) (omega arith) (omega arith))
 
--- the row at an address of the code that ends at `end`
-module _ (code : List ℕ) (at end : ℕ) (h : at < length code) (e : end ≡ min (at + 16) (length code)) where
-  chunk : take 16 (drop at code) ≡ take (end - at) (drop at code)
-  chunk = go (leb (at + 16) (length code)) refl
-    where
-      go : (b : Bool) → leb (at + 16) (length code) ≡ b → take 16 (drop at code) ≡ take (end - at) (drop at code)
-      go true f =
-          let g = leb-true (at + 16) (length code) f in
-          let k : 16 ≡ end - at = omega arith in
-          ap (λ (n : ℕ). take n (drop at code)) k
-      go false f =
-          let g = leb-false (at + 16) (length code) f in
-          let l = length-drop at code in
-          take_all 16 (drop at code) (omega arith) ∙ sym (take_all (end - at) (drop at code) (omega arith))
+-- a piece of n bytes off the front, or of all where there are fewer, and what it leaves
+piece : (n : ℕ) (x t : List ℕ) → length x ≡ min n (length (x ++ t)) → take n (x ++ t) ≡ x
+piece zero [] t h = refl
+piece zero (b ∷ x) t h = absurd (omega arith)
+piece (suc n) [] [] h = refl
+piece (suc n) [] (b ∷ t) h = absurd (omega arith)
+piece (suc n) (b ∷ x) t h = ap (λ (l : List ℕ). b ∷ l) (piece n x t (omega arith))
 
-  others : rows_all (at + 16) (drop 16 (drop at code)) ≡ rows_all end (drop end code)
-  unfolding rows_all rows_from
-  others = go (leb (at + 16) (length code)) refl
-    where
-      go : (b : Bool) → leb (at + 16) (length code) ≡ b → rows_all (at + 16) (drop 16 (drop at code)) ≡ rows_all end (drop end code)
-      go true f =
-          let g = leb-true (at + 16) (length code) f in
-          let k : at + 16 ≡ end = omega arith in
-          rw (drop-drop 16 at code, k)
-      go false f =
-          let g = leb-false (at + 16) (length code) f in
-          rw (drop-drop 16 at code, drop_of_length-le code {i = at + 16} (omega arith), drop_of_length-le code {i = end} (omega arith))
+rest : (n : ℕ) (x t : List ℕ) → length x ≡ min n (length (x ++ t)) → drop n (x ++ t) ≡ t
+rest zero [] t h = refl
+rest zero (b ∷ x) t h = absurd (omega arith)
+rest (suc n) [] [] h = refl
+rest (suc n) [] (b ∷ t) h = absurd (omega arith)
+rest (suc n) (b ∷ x) t h = rest n x t (omega arith)
 
-  pub row_on : rows_all at (drop at code) ≡ row_for 0 at (take (end - at) (drop at code)) ++ rows_all end (drop end code)
-  row_on =
-      first_row at (drop at code) (omega (arith, length-drop at code))
-      ∙ rw (chunk, others)
+-- the row of the bytes x at the front of s, and the rows of the bytes t that it leaves
+pub row_on : (at : ℕ) (s x t : List ℕ) → s ≡ x ++ t → length x ≡ min 16 (length s) → 0 < length s
+    → rows_all at s ≡ row_for 0 at x ++ rows_all (at + 16) t
+row_on at s x t e l h =
+    let k : length x ≡ min 16 (length (x ++ t)) = l ∙ ap (λ (u : List ℕ). min 16 (length u)) e in
+    first_row at s h
+    ∙ ap (λ (u : List ℕ). row_for 0 at (take 16 u) ++ rows_all (at + 16) (drop 16 u)) e
+    ∙ rw (piece 16 x t k, rest 16 x t k) refl
 
 -- ---- lengths
 

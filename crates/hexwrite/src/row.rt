@@ -5,16 +5,14 @@ ghost use Rattle.hexpairs.specs.Pairs.{total};
 ghost use Rattle.hexwrite.specs.Write.{head_of, sum_for, row_for};
 
 // The sum of some bytes modulo 256.
-fn sum_of(bytes: &[u8]) -> usize
+fn sum_of(bytes: &[u8]) -> u8
     ensures { result ≡ total bytes.now % 256 }
 {
-    let mut s = 0;
-    let mut i = 0;
-    while i < bytes.len() {
-        s = (s + bytes[i] as usize) % 256;
-        i += 1;
+    let mut sum = 0u8;
+    for byte in bytes {
+        sum = sum.wrapping_add(*byte);
     }
-    s
+    sum
 }
 
 // The last byte of a row of data.
@@ -22,11 +20,11 @@ fn sum_for(at: usize, bytes: &[u8]) -> u8
     requires { (at < 65536) × (length bytes.now < 256) }
     ensures { result ≡ sum_for (head_of 0 at bytes.now) }
 {
-    let sum = bytes.len() + at / 256 + at % 256 + sum_of(bytes);
+    let sum = bytes.len() + at / 256 + at % 256 + sum_of(bytes) as usize;
     ((256 - sum % 256) % 256) as u8
 }
 
-// A row of data, put into a text.
+// A row of data, put into a text: at a place in the lent buffer, since the caller lends all the room at once, and there is no heap.
 pub fn put_row(text: &mut [u8], n: usize, at: usize, bytes: &[u8])
     requires { (n + (2 * length bytes.now + 12) ≤ length text.old) × (at < 65536) × (length bytes.now < 256) }
     ensures { text.new ≡ sets text.old n (row_for 0 at bytes.now) }

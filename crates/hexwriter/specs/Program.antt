@@ -1,11 +1,8 @@
--- What the program shows for a kernel: its text, or nothing where it is refused.
+-- What the program writes for a kernel: its text, or nothing where it is refused.
 use Rattle.std.specs.Prelude.{ℕ, ◌≤◌, Bool, true, false, cond, List, [], leb, length, Option, IfSome}
 use Rattle.std.specs.Io.KnownBytes.{Appends, Keeps}
 use Rattle.hexfile.specs.Read.{limit}
 use Rattle.hexwrite.specs.Write.{hex_of}
-
-abbrev pub shown_for : List ℕ → List ℕ
-shown_for code = cond (leb (length code) limit) (hex_of code) []
 
 -- What it writes for a file: the text of all that the file has, where that is known; or nothing, where it says that it refuses it. Arguments
 -- are what the file has, what has been written before and after, and whether the text was written.

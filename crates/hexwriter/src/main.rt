@@ -2,24 +2,21 @@
 // there, and standard error says so.
 #![tactic(auto)]
 
-ghost use Rattle.std.specs.Prelude.{◌≡◌, IfOk, length, take};
+ghost use Rattle.std.specs.Prelude.{◌≡◌, ◌<◌, ◌≤◌, IfOk, MatchOption, length, take};
 ghost use Rattle.input.specs.Counts.{IsPrefixLen};
-ghost use Rattle.hexwriter.specs.Program.{shown_for, Writes};
+ghost use Rattle.hexwriter.specs.Program.{Writes};
+ghost use Rattle.hexfile.specs.Read.{limit};
+ghost use Rattle.hexwrite.specs.Write.{hex_of};
 
-use hexfile::Writing;
 use std::io;
 use std::io::{Read, Write};
 
-// The number of characters, 0 where the kernel is too long. The text has room for every other kernel's.
-fn write_whole(code: &[u8], text: &mut [u8]) -> usize
+// The number of characters; none where the kernel is too long. The text has room for every other kernel's.
+fn write_whole(code: &[u8], text: &mut [u8]) -> Option<usize>
     requires { 65536 ≡ length text.old }
-    ensures prefix_len { IsPrefixLen result text.new }
-    ensures text_after { take result text.new ≡ shown_for code.now }
+    ensures { MatchOption result (limit < length code.now) (λ n. IsPrefixLen n text.new × (take n text.new ≡ hex_of code.now) × (length code.now ≤ limit)) }
 {
-    match hexfile::write(code, text) {
-        Writing::Text(n) => n,
-        Writing::BadSize => 0,
-    }
+    hexfile::write(code, text)
 }
 
 // Whether the text was written. With one byte more than the most that are taken, or after a read that failed, the kernel is too long.
@@ -29,10 +26,9 @@ fn write_file<R: Read, W: Write>(file: &mut R, output: &mut W) -> io::Result<boo
     let mut code = [0u8; hexfile::LIMIT + 1];
     let n = input::read_all(file, &mut code);
     let mut text = [0u8; 65536];
-    let k = write_whole(&code[..n], &mut text);
-    if k == 0 {
+    let Some(k) = write_whole(&code[..n], &mut text) else {
         return Ok(false);
-    }
+    };
     output.write_all(&text[..k])?;
     Ok(true)
 }

@@ -13,6 +13,7 @@ pub fn read_all<R: Read>(file: &mut R, buffer: &mut [u8]) -> usize
     ensures whole { result < length buffer.new → IfSome (R.remaining file.old) (λ xs. take result buffer.new ≡ xs) }
 {
     let mut n = 0;
+    // A `while`: it goes on by as much as each read gives, which no range or iterator knows.
     while n < buffer.len() {
         match file.read(&mut buffer[n..]) {
             Ok(0) => return n,

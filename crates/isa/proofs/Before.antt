@@ -7,7 +7,7 @@ use mathlib.Core.List.{List, [], ◌∷◌, map}
 use Rattle.isa.specs.Diagram.{Diagram, Span, Fixed, Field, Fields}
 use Rattle.isa.specs.Read.{mov16, mov32, get_sr, iadd, imadd, bitfield, shift, bitop, scan, jump, pop_exec, compare}
 use Rattle.isa.specs.Rows.{rows}
-use Rattle.isa.specs.declared.answer.Reading.{Reading}
+use Rattle.isa.specs.Answer.{Reading}
 use Rattle.isa.specs.declared.instruction.Instruction.{Instruction}
 use Rattle.isa.proofs.Printed.{fixed_at, field_at}
 

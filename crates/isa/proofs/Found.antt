@@ -1,4 +1,5 @@
 -- What is found: a form of the list that matches, and the only one. It is lent whole, and has four to eight bytes.
+use Rattle.std.proofs.Common.{Ok, Err}
 use mathlib.Core.Path.{◌≡◌, refl, sym, ap, ◌∙◌, subst}
 use mathlib.Core.Bool.{Bool, true, false, cond, ◌&&◌}
 use mathlib.Core.List.{List, [], ◌∷◌}
@@ -12,8 +13,8 @@ use Rattle.bits.proofs.Laws.{Bytes}
 use Rattle.bits.proofs.Table.{all-at, and_left}
 use Rattle.isa.specs.Find.{Form, forms, matches, beats, best_of, any_goes_on, found, find_of}
 use Rattle.isa.specs.Decode.{decode_of}
-use Rattle.isa.specs.declared.answer.Find.{Find}
-use Rattle.isa.specs.declared.answer.Decoded.{Decoded}
+use Rattle.isa.specs.Answer.{Find}
+use Rattle.isa.specs.Answer.{Decoded}
 use Rattle.isa.specs.declared.instruction.Instruction.{Instruction}
 use Rattle.isa.proofs.Cases.{cases}
 use Rattle.isa.proofs.Forms.{well_formed, well_formed_lem, all-well_formed}
@@ -55,8 +56,8 @@ module _ (s : List ℕ) (Q : Form → Type 0) where
       (better f b (q 0 (suc-le-suc zero-le)) h (matches f s) (beats f b) refl)
 
 abbrev Of : List ℕ → Find → Type 0
-Of s (Find.At p n) = (f : Form) × Matched s f × (f.place ≡ p) × (f.bytes ≡ n)
-Of s (Find.Refused r) = Unit {0}
+Of s (Ok (p, n)) = (f : Form) × Matched s f × (f.place ≡ p) × (f.bytes ≡ n)
+Of s (Err r) = Unit {0}
 
 of_best : (s : List ℕ) (b : Option Form) (more : Bool) → IfAny (Matched s) b → Of s (found b more)
 of_best s none true h = tt
@@ -64,7 +65,7 @@ of_best s none false h = tt
 of_best s (some f) more h = (f, h, refl, refl)
 
 -- what is found is a form of the list that matches
-pub found_form : (s : List ℕ) (p n : ℕ) → find_of s ≡ Find.At p n → (f : Form) × Matched s f × (f.place ≡ p) × (f.bytes ≡ n)
+pub found_form : (s : List ℕ) (p n : ℕ) → find_of s ≡ Ok (p, n) → (f : Form) × Matched s f × (f.place ≡ p) × (f.bytes ≡ n)
 found_form s p n e =
     subst (Of s) e
     (of_best s (best_of forms s none) (any_goes_on forms s)
@@ -98,33 +99,33 @@ module _ (s : List ℕ) where
   some_best (f ∷ fs) b zero h m = stays fs (cond (matches f s && beats f b) (some f) b) (taken f b m)
   some_best (f ∷ fs) b (suc j) h m = some_best fs (cond (matches f s && beats f b) (some f) b) j (le_of_suc-le-suc h) m
 
-  pub only_form : Bytes s → (f : Form) → Matched s f → find_of s ≡ Find.At f.place f.bytes
+  pub only_form : Bytes s → (f : Form) → Matched s f → find_of s ≡ Ok (f.place, f.bytes)
   only_form hs f h =
       go (best_of forms s none) (any_goes_on forms s)
       (best s (Matched s) forms none (λ j l m. record { index = j; within = l; is = refl; agrees = m }) tt)
       (some_best forms none h.index h.within (rw h.is h.agrees))
     where
-      go : (b : Option Form) (more : Bool) → IfAny (Matched s) b → IsSome b → found b more ≡ Find.At f.place f.bytes
+      go : (b : Option Form) (more : Bool) → IfAny (Matched s) b → IsSome b → found b more ≡ Ok (f.place, f.bytes)
       go none more q i = absurd i
       go (some g) more q i =
           let e : q.index ≡ h.index =
           no_two_match s hs no_form q.index h.index q.within h.within (rw q.is q.agrees) (rw h.is h.agrees) in
           let z : g ≡ f = sym q.is ∙ ap form_at e ∙ h.is in
-          ap (λ (x : Form). Find.At x.place x.bytes) z
+          ap (λ (x : Form). Ok (x.place, x.bytes)) z
 
 -- ---- its length
 
 -- a place of the list, and a length that is lent
 abbrev pub Lent : List ℕ → Find → Type 0
-Lent s (Find.At p n) = (p < 22) × (4 ≤ n) × (n ≤ 8) × (n ≤ length s)
-Lent s (Find.Refused r) = Unit {0}
+Lent s (Ok (p, n)) = (p < 22) × (4 ≤ n) × (n ≤ 8) × (n ≤ length s)
+Lent s (Err r) = Unit {0}
 
 pub found-lent : (s : List ℕ) → Lent s (find_of s)
 found-lent s = go (find_of s) refl
   where
     go : (x : Find) → find_of s ≡ x → Lent s x
-    go (Find.Refused r) e = tt
-    go (Find.At p n) e =
+    go (Err r) e = tt
+    go (Ok (p, n)) e =
         let q = found_form s p n e in
         let m = q.1 in
         let w = well_formed_lem q.0 (subst (λ (f : Form). T (well_formed f)) m.is (all-at well_formed forms no_form all-well_formed m.index m.within)) in
@@ -132,11 +133,11 @@ found-lent s = go (find_of s) refl
         (rw (← q.2) w.placed, rw (← q.3) w.long, rw (← q.3) w.short, rw (← q.3) l)
 
 abbrev Long : List ℕ → Decoded → Type 0
-Long s (Decoded.Found i n) = (4 ≤ n) × (n ≤ 8) × (n ≤ length s)
-Long s (Decoded.Refused r) = Unit {0}
+Long s (Ok (i, n)) = (4 ≤ n) × (n ≤ 8) × (n ≤ length s)
+Long s (Err r) = Unit {0}
 
 -- a decoded instruction has four to eight bytes, and they are lent
-pub found-length : (s : List ℕ) (i : Instruction) (n : ℕ) → decode_of s ≡ Decoded.Found i n → (4 ≤ n) × (n ≤ 8) × (n ≤ length s)
+pub found-length : (s : List ℕ) (i : Instruction) (n : ℕ) → decode_of s ≡ Ok (i, n) → (4 ≤ n) × (n ≤ 8) × (n ≤ length s)
 found-length s i n e =
     subst (Long s) e
     (cases (Long s) s (λ p m j f g. let l = subst (Lent s) f (found-lent s) in (l.1, l.2, l.3)) (λ r a b. tt))

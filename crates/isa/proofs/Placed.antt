@@ -1,4 +1,5 @@
 -- A decoded instruction is of the diagram that was found: its place in the list is the one that the finding rule answers.
+use Rattle.std.proofs.Common.{Option, Some, Ok, Err}
 use mathlib.Core.Path.{◌≡◌, refl, sym, ap, ap₂, ◌∙◌, subst}
 use mathlib.Core.Bool.{Bool, ◌&&◌}
 use mathlib.Core.List.{List, [], ◌∷◌}
@@ -22,20 +23,14 @@ use Rattle.isa.specs.declared.operand.Unary.{Unary}
 use Rattle.isa.specs.declared.operand.Binary.{Binary}
 use Rattle.isa.specs.declared.operand.Ternary.{Ternary}
 use Rattle.isa.specs.declared.operand.Compared.{Compared}
-use Rattle.isa.specs.declared.operand.ReadDst.{ReadDst}
-use Rattle.isa.specs.declared.operand.ReadUnary.{ReadUnary}
-use Rattle.isa.specs.declared.operand.ReadBinary.{ReadBinary}
-use Rattle.isa.specs.declared.operand.ReadTernary.{ReadTernary}
-use Rattle.isa.specs.declared.operand.ReadCompared.{ReadCompared}
 use Rattle.isa.specs.declared.instruction.Bitfield.{Bitfield}
 use Rattle.isa.specs.declared.instruction.Shift.{Shift}
 use Rattle.isa.specs.declared.instruction.Scan.{Scan}
 use Rattle.isa.specs.declared.instruction.Compare.{Compare}
 use Rattle.isa.specs.declared.instruction.Instruction.{Instruction}
 use Rattle.isa.specs.declared.answer.Refusal.{Refusal}
-use Rattle.isa.specs.declared.answer.Find.{Find}
-use Rattle.isa.specs.declared.answer.Reading.{Reading}
-use Rattle.isa.specs.declared.answer.Decoded.{Decoded}
+use Rattle.isa.specs.Answer.{Reading, Decoded}
+use Rattle.isa.proofs.Pairs.{ok_pair_parts}
 use Rattle.isa.proofs.Cases.{cases}
 use Rattle.isa.proofs.Found.{Lent, found-lent}
 use Rattle.isa.proofs.WasRead.{Reads, is_reads, on_dst, on_unary, on_binary, on_ternary, on_compared, on_condition}
@@ -44,24 +39,24 @@ use Rattle.isa.proofs.WasRead.{Reads, is_reads, on_dst, on_unary, on_binary, on_
 abbrev At : ℕ → Reading → Type 0
 At p = Reads (λ i. place_of i ≡ p)
 
-is_at : (p : ℕ) (j : Instruction) → place_of j ≡ p → At p (Reading.Is j)
+is_at : (p : ℕ) (j : Instruction) → place_of j ≡ p → At p (Some j)
 is_at p = is_reads (λ i. place_of i ≡ p)
 
 -- whatever the operands are
 module _ (p : ℕ) where
-  dst-at : (r : ReadDst) (k : Dst → Reading) → ((d : Dst) → At p (k d)) → At p (with_dst r k)
+  dst-at : (r : Option Dst) (k : Dst → Reading) → ((d : Dst) → At p (k d)) → At p (with_dst r k)
   dst-at r k h = on_dst (λ i. place_of i ≡ p) r k (λ d e. h d)
 
-  unary-at : (r : ReadUnary) (k : Unary → Reading) → ((o : Unary) → At p (k o)) → At p (with_unary r k)
+  unary-at : (r : Option Unary) (k : Unary → Reading) → ((o : Unary) → At p (k o)) → At p (with_unary r k)
   unary-at r k h = on_unary (λ i. place_of i ≡ p) r k (λ o e. h o)
 
-  binary-at : (r : ReadBinary) (k : Binary → Reading) → ((o : Binary) → At p (k o)) → At p (with_binary r k)
+  binary-at : (r : Option Binary) (k : Binary → Reading) → ((o : Binary) → At p (k o)) → At p (with_binary r k)
   binary-at r k h = on_binary (λ i. place_of i ≡ p) r k (λ o e. h o)
 
-  ternary-at : (r : ReadTernary) (k : Ternary → Reading) → ((o : Ternary) → At p (k o)) → At p (with_ternary r k)
+  ternary-at : (r : Option Ternary) (k : Ternary → Reading) → ((o : Ternary) → At p (k o)) → At p (with_ternary r k)
   ternary-at r k h = on_ternary (λ i. place_of i ≡ p) r k (λ o e. h o)
 
-  compared_at_lem : (r : ReadCompared) (k : Compared → Reading) → ((o : Compared) → At p (k o)) → At p (with_compared r k)
+  compared_at_lem : (r : Option Compared) (k : Compared → Reading) → ((o : Compared) → At p (k o)) → At p (with_compared r k)
   compared_at_lem r k h = on_compared (λ i. place_of i ≡ p) r k (λ o e. h o)
 
   condition_at : (cc : ℕ) (r : Reading) → At p r → At p (with_condition cc r)
@@ -123,7 +118,7 @@ unfolding rows
 length-rows = refl
 
 -- an instruction that was read by the diagram at a place has that place
-pub read-place : (p w : ℕ) → p < 22 → (i : Instruction) → read_at p w ≡ Reading.Is i → place_of i ≡ p
+pub read-place : (p w : ℕ) → p < 22 → (i : Instruction) → read_at p w ≡ Some i → place_of i ≡ p
 read-place p w h i e =
     let r : At (0 + p) (read_at p w) = row_at rows 0 rows_at p (rw length-rows h) w in
     (rw (zero-add p) at r).holds i e
@@ -169,17 +164,16 @@ pub place_below : (i : Instruction) → place_of i < 22
 place_below i = let k = kind_within i in omega arith
 
 -- what decodes to an instruction was found at the place of its diagram
-pub found-place : (s : List ℕ) (i : Instruction) (n : ℕ) → decode_of s ≡ Decoded.Found i n → find_of s ≡ Find.At (place_of i) n
-found-place s = cases (λ d. (i : Instruction) (n : ℕ) → d ≡ Decoded.Found i n → find_of s ≡ Find.At (place_of i) n) s here refused
+pub found-place : (s : List ℕ) (i : Instruction) (n : ℕ) → decode_of s ≡ Ok (i, n) → find_of s ≡ Ok (place_of i, n)
+found-place s = cases (λ d. (i : Instruction) (n : ℕ) → d ≡ Ok (i, n) → find_of s ≡ Ok (place_of i, n)) s here refused
   where
-    here : (p m : ℕ) (j : Instruction) → find_of s ≡ Find.At p m → read_at p (le (take m s)) ≡ Reading.Is j
-        → (i : Instruction) (n : ℕ) → Decoded.Found j m ≡ Decoded.Found i n → find_of s ≡ Find.At (place_of i) n
+    here : (p m : ℕ) (j : Instruction) → find_of s ≡ Ok (p, m) → read_at p (le (take m s)) ≡ Some j
+        → (i : Instruction) (n : ℕ) → ◌≡◌ {A = Decoded} (Ok (j, m)) (Ok (i, n)) → find_of s ≡ Ok (place_of i, n)
     here p m j f g i n e =
         let l = subst (Lent s) f (found-lent s) in
-        let ej : j ≡ i = cc in
-        let em : m ≡ n = cc in
-        f ∙ ap₂ (λ (x y : ℕ). Find.At x y) (sym (read-place p (le (take m s)) l.0 j g) ∙ ap place_of ej) em
+        let same = ok_pair_parts j i m n e in
+        f ∙ ap₂ (λ (x y : ℕ). Ok (x, y)) (sym (read-place p (le (take m s)) l.0 j g) ∙ ap place_of same.0) same.1
 
     refused : (r : Refusal) → 2 ≤ number_of r → number_of r ≤ 4
-        → (i : Instruction) (n : ℕ) → Decoded.Refused r ≡ Decoded.Found i n → find_of s ≡ Find.At (place_of i) n
+        → (i : Instruction) (n : ℕ) → ◌≡◌ {A = Decoded} (Err r) (Ok (i, n)) → find_of s ≡ Ok (place_of i, n)
     refused r a b i n e = let z : ◌≡◌ {A = ℕ} 0 1 = cc in absurd (omega arith)

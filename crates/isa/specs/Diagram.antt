@@ -9,7 +9,7 @@ use Rattle.bits.specs.Word.{field_of}
 use Rattle.isa.specs.Text.{ascii}
 use Rattle.isa.specs.Strip.{Cell, fixed_cell, field_cell, unknown_cell, two_line_cell, Strip, cell_width}
 use Rattle.isa.specs.Bits.{Bits}
-use Rattle.isa.specs.declared.answer.Reading.{Reading}
+use Rattle.isa.specs.Answer.{Reading}
 
 -- the bits hi to lo
 pub record Span : Type 0 where

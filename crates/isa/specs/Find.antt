@@ -1,12 +1,12 @@
 -- Finding the instruction at the start of some bytes: the rule of "Finding the instruction" in the statement of what to build.
-use Rattle.std.specs.Prelude.{ℕ, suc, ◌-◌, Bool, true, false, cond, ◌&&◌, ◌||◌, List, [], ◌∷◌, ◌++◌, eqb, leb, ltb, length, take}
+use Rattle.std.specs.Prelude.{ℕ, suc, ◌-◌, Bool, true, false, cond, ◌&&◌, ◌||◌, List, [], ◌∷◌, ◌++◌, eqb, leb, ltb, length, take, Ok, Err}
 use Rattle.std.proofs.Math.Option.{Option, none, some}
 use Rattle.std.specs.Int.Bits.{bit_and, bit_or}
 use Rattle.bits.specs.Word.{le, ones}
 use Rattle.isa.specs.Diagram.{Diagram, field_mask, fixed_mask, fixed_value, fixed_count}
 use Rattle.isa.specs.Rows.{rows}
 use Rattle.isa.specs.Refusal.{refusal}
-use Rattle.isa.specs.declared.answer.Find.{Find}
+use Rattle.isa.specs.Answer.{Find}
 
 -- ---- the forms of a diagram
 
@@ -78,9 +78,9 @@ any_goes_on (f ∷ fs) code = goes_on f code || any_goes_on fs code
 
 -- if none matches but one agrees so far and is longer, the answer is 2; otherwise it is 3
 abbrev pub found : Option Form → Bool → Find
-found (some f) more = Find.At f.place f.bytes
-found none true = Find.Refused (refusal 2)
-found none false = Find.Refused (refusal 3)
+found (some f) more = Ok (f.place, f.bytes)
+found none true = Err (refusal 2)
+found none false = Err (refusal 3)
 
 abbrev pub find_of : List ℕ → Find
 find_of code = found (best_of forms code none) (any_goes_on forms code)

@@ -1,5 +1,6 @@
 pub mod Refusal
 pub mod Text
+pub mod Answer
 pub mod Bits
 pub mod Operand
 pub mod Together

@@ -1,61 +1,56 @@
 -- Operands read together: each has to have a meaning; and going on with what was read, where it has one.
-use Rattle.std.specs.Prelude.{ℕ, cond}
+use Rattle.std.specs.Prelude.{ℕ, cond, Option, Some, None}
 use Rattle.isa.specs.Operand.{means_condition}
 use Rattle.isa.specs.declared.operand.Dst.{Dst}
 use Rattle.isa.specs.declared.operand.Unary.{Unary}
 use Rattle.isa.specs.declared.operand.Binary.{Binary}
 use Rattle.isa.specs.declared.operand.Ternary.{Ternary}
 use Rattle.isa.specs.declared.operand.Compared.{Compared}
-use Rattle.isa.specs.declared.operand.ReadDst.{ReadDst}
-use Rattle.isa.specs.declared.operand.ReadSrc.{ReadSrc}
-use Rattle.isa.specs.declared.operand.ReadUnary.{ReadUnary}
-use Rattle.isa.specs.declared.operand.ReadBinary.{ReadBinary}
-use Rattle.isa.specs.declared.operand.ReadTernary.{ReadTernary}
-use Rattle.isa.specs.declared.operand.ReadCompared.{ReadCompared}
-use Rattle.isa.specs.declared.answer.Reading.{Reading}
+use Rattle.isa.specs.Answer.{Reading}
+use Rattle.isa.specs.declared.operand.Src.{Src}
 
-unfoldable pub unary : ReadDst → ReadSrc → ReadUnary
-unary (ReadDst.Is d) (ReadSrc.Is a) = ReadUnary.Is (record { d = d; a = a })
-unary (ReadDst.Is d) ReadSrc.NoMeaning = ReadUnary.NoMeaning
-unary ReadDst.NoMeaning a = ReadUnary.NoMeaning
+unfoldable pub unary : Option Dst → Option Src → Option Unary
+unary (Some d) (Some a) = Some (record { d = d; a = a })
+unary (Some d) None = None
+unary None a = None
 
-unfoldable pub binary : ReadUnary → ReadSrc → ReadBinary
-binary (ReadUnary.Is o) (ReadSrc.Is b) = ReadBinary.Is (record { d = o.d; a = o.a; b = b })
-binary (ReadUnary.Is o) ReadSrc.NoMeaning = ReadBinary.NoMeaning
-binary ReadUnary.NoMeaning b = ReadBinary.NoMeaning
+unfoldable pub binary : Option Unary → Option Src → Option Binary
+binary (Some o) (Some b) = Some (record { d = o.d; a = o.a; b = b })
+binary (Some o) None = None
+binary None b = None
 
-unfoldable pub ternary : ReadBinary → ReadSrc → ReadTernary
-ternary (ReadBinary.Is o) (ReadSrc.Is c) = ReadTernary.Is (record { d = o.d; a = o.a; b = o.b; c = c })
-ternary (ReadBinary.Is o) ReadSrc.NoMeaning = ReadTernary.NoMeaning
-ternary ReadBinary.NoMeaning c = ReadTernary.NoMeaning
+unfoldable pub ternary : Option Binary → Option Src → Option Ternary
+ternary (Some o) (Some c) = Some (record { d = o.d; a = o.a; b = o.b; c = c })
+ternary (Some o) None = None
+ternary None c = None
 
-unfoldable pub compared : ReadSrc → ReadSrc → ReadCompared
-compared (ReadSrc.Is a) (ReadSrc.Is b) = ReadCompared.Is (record { a = a; b = b })
-compared (ReadSrc.Is a) ReadSrc.NoMeaning = ReadCompared.NoMeaning
-compared ReadSrc.NoMeaning b = ReadCompared.NoMeaning
+unfoldable pub compared : Option Src → Option Src → Option Compared
+compared (Some a) (Some b) = Some (record { a = a; b = b })
+compared (Some a) None = None
+compared None b = None
 
 -- ---- going on with what was read
 
-unfoldable pub with_dst : ReadDst → (Dst → Reading) → Reading
-with_dst (ReadDst.Is d) k = k d
-with_dst ReadDst.NoMeaning k = Reading.NoMeaning
+unfoldable pub with_dst : Option Dst → (Dst → Reading) → Reading
+with_dst (Some d) k = k d
+with_dst None k = None
 
-unfoldable pub with_unary : ReadUnary → (Unary → Reading) → Reading
-with_unary (ReadUnary.Is o) k = k o
-with_unary ReadUnary.NoMeaning k = Reading.NoMeaning
+unfoldable pub with_unary : Option Unary → (Unary → Reading) → Reading
+with_unary (Some o) k = k o
+with_unary None k = None
 
-unfoldable pub with_binary : ReadBinary → (Binary → Reading) → Reading
-with_binary (ReadBinary.Is o) k = k o
-with_binary ReadBinary.NoMeaning k = Reading.NoMeaning
+unfoldable pub with_binary : Option Binary → (Binary → Reading) → Reading
+with_binary (Some o) k = k o
+with_binary None k = None
 
-unfoldable pub with_ternary : ReadTernary → (Ternary → Reading) → Reading
-with_ternary (ReadTernary.Is o) k = k o
-with_ternary ReadTernary.NoMeaning k = Reading.NoMeaning
+unfoldable pub with_ternary : Option Ternary → (Ternary → Reading) → Reading
+with_ternary (Some o) k = k o
+with_ternary None k = None
 
-unfoldable pub with_compared : ReadCompared → (Compared → Reading) → Reading
-with_compared (ReadCompared.Is o) k = k o
-with_compared ReadCompared.NoMeaning k = Reading.NoMeaning
+unfoldable pub with_compared : Option Compared → (Compared → Reading) → Reading
+with_compared (Some o) k = k o
+with_compared None k = None
 
 -- ICondition(cc, ccn): a condition with no meaning leaves none to the instruction
 unfoldable pub with_condition : ℕ → Reading → Reading
-with_condition cc r = cond (means_condition cc) r Reading.NoMeaning
+with_condition cc r = cond (means_condition cc) r None

@@ -2,7 +2,7 @@
 // fields of a diagram are made of. A part that the instruction does not have is 0.
 
 // An operand: its kind (0 is none), its hint and its number. docs/byte-form.md has the numbers of kinds and hints.
-#[derive(Clone, Copy)]
+#[derive(Clone, Copy, PartialEq, Eq)]
 pub struct Slot {
     pub kind: u8,
     pub hint: u8,
@@ -10,7 +10,7 @@ pub struct Slot {
 }
 
 // S, N, As, Bs, Cs and the shift of iadd and imadd
-#[derive(Clone, Copy)]
+#[derive(Clone, Copy, PartialEq, Eq)]
 pub struct Signs {
     pub saturate: u8,
     pub negate: u8,
@@ -21,7 +21,7 @@ pub struct Signs {
 }
 
 // The truth table of bitop
-#[derive(Clone, Copy)]
+#[derive(Clone, Copy, PartialEq, Eq)]
 pub struct Truth {
     pub tt0: u8,
     pub tt1: u8,
@@ -30,7 +30,7 @@ pub struct Truth {
 }
 
 // The condition and the depth of a mask instruction
-#[derive(Clone, Copy)]
+#[derive(Clone, Copy, PartialEq, Eq)]
 pub struct Condition {
     pub cc: u8,
     pub ccn: u8,
@@ -38,7 +38,7 @@ pub struct Condition {
 }
 
 // `kind` is 1 for the first diagram of the list. A mask instruction has no `d`, but the hint of r0l stands there.
-#[derive(Clone, Copy)]
+#[derive(Clone, Copy, PartialEq, Eq)]
 pub struct Parts {
     pub kind: u8,
     pub d: Slot,

@@ -1,19 +1,9 @@
--- One bit of a mask of 32.
-use mathlib.Core.Path.{◌≡◌, ◌∙◌}
+-- One bit of a mask, above those that are there.
 use mathlib.Core.Bool.{Bool, true, false, cond}
-use Prim.Native.Nat.{ℕ, suc, ◌+◌, ◌*◌, ◌%◌, ◌^◌, ◌≤◌, ◌<◌}
+use Prim.Native.Nat.{ℕ, ◌+◌, ◌^◌, ◌<◌}
 use native.Mathlib.Omega.{arith}
-use lib.Pow.{pow_mono, shl_exact}
+use lib.Pow.{pow-add}
 
-pub one_bit : (t : ℕ) → t < 32 → 1 * 2 ^ t % 2 ^ 32 ≡ 2 ^ t
-one_bit t h = shl_exact 1 t 32 (omega arith) (omega arith) ∙ omega arith
-
-pub bit_fits : (mask t : ℕ) (on : Bool) → t < 32 → mask < 2 ^ t → mask + cond on (2 ^ t) 0 < 2 ^ 32
-bit_fits mask t on h k = go on
-  where
-    p : 2 ^ suc t ≤ 2 ^ 32
-    p = pow_mono {i = suc t} {j = 32} h
-
-    go : (on : Bool) → mask + cond on (2 ^ t) 0 < 2 ^ 32
-    go true = omega (arith, p)
-    go false = omega (arith, p)
+pub bit_below : (mask t : ℕ) (on : Bool) → mask < 2 ^ t → mask + cond on (2 ^ t) 0 < 2 ^ (t + 1)
+bit_below mask t true h = omega (arith, pow-add 2 t 1)
+bit_below mask t false h = omega (arith, pow-add 2 t 1)

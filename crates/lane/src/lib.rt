@@ -1,18 +1,12 @@
 // What one thread reads and writes of a word. Half h is of register h / 2, its low half where h is even, its high half where h is odd.
 #![tactic(auto)]
 
-ghost use Rattle.std.specs.Prelude.{◌≡◌, cond, ◌*◌, ◌/◌, ◌%◌, ◌^◌, ◌<◌, eqb};
+ghost use Rattle.std.specs.Prelude.{◌≡◌, ℕ, Bool, cond, ◌*◌, ◌/◌, ◌%◌, ◌^◌, ◌<◌, eqb};
 ghost use Rattle.std.specs.Int.Bits.{bit_and, bit_or};
-ghost use Rattle.machine.specs.Lanes.{active_in};
+ghost use Rattle.machine.specs.Lanes.{active_in, pack};
 ghost use Rattle.machine.specs.Words.{pair_of};
 
 // ---- where a half stands
-
-pub fn index(r: u8) -> usize
-    ensures { result ≡ r }
-{
-    r as usize
-}
 
 // The bit of the word that the half starts at.
 pub fn place(h: u16) -> u32
@@ -30,23 +24,17 @@ pub fn other(h: u16) -> u32
 
 // ---- reading
 
-pub fn wide(x: u32) -> u64
-    ensures { result ≡ x }
-{
-    x as u64
-}
-
 pub fn part(word: u32, place: u32) -> u64
     requires { place < 32 }
     ensures { result ≡ word / 2 ^ place % 2 ^ 16 }
 {
-    ((word >> place) % 65536) as u64
+    u64::from((word >> place) % 65536)
 }
 
 pub fn pair(first: u32, second: u32) -> u64
     ensures { result ≡ pair_of first second }
 {
-    wide(second) * 4294967296 + wide(first)
+    u64::from(second) * 4294967296 + u64::from(first)
 }
 
 // ---- writing
@@ -58,7 +46,7 @@ pub fn active(mask: u32, t: usize) -> bool
     (mask >> t) % 2 == 1
 }
 
-pub fn choose(on: bool, new: u32, old: u32) -> u32
+pub fn choose<T: Copy>(on: bool, new: T, old: T) -> T
     ensures { result ≡ cond on new old }
 {
     if on { new } else { old }
@@ -88,4 +76,17 @@ pub fn bit(zero: bool, t: usize) -> u32
     ensures { result ≡ cond zero (2 ^ t) 0 }
 {
     if zero { 1u32 << t } else { 0 }
+}
+
+// The threads of which f holds, a bit each.
+pub fn mask<F: Fn(usize) -> bool>(f: F) -> u32
+    requires { (t : ℕ) → t < 32 → F.pre f t }
+    ensures { (p : ℕ → Bool) → ((t : ℕ) (on : Bool) → t < 32 → F.post f t on → on ≡ p t)
+        → result ≡ pack 32 p }
+{
+    let mut mask = 0u32;
+    for t in 0..32 {
+        mask += bit(f(t), t);
+    }
+    mask
 }

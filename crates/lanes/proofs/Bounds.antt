@@ -1,11 +1,11 @@
 -- The rows of sources, and how many bits their values have.
-use mathlib.Core.Path.{◌≡◌, ap, ◌∙◌}
+use mathlib.Core.Path.{◌≡◌, refl, ◌∙◌}
 use mathlib.Core.Bool.{Bool, true, false, cond}
 use mathlib.Core.List.{List, [], ◌∷◌}
 use Prim.Native.Nat.{ℕ, ◌/◌, ◌%◌, ◌^◌, ◌<◌}
 use native.Mathlib.Omega.{arith}
 use lib.Dec.{eqb}
-use lib.ListN.{length, get_or, set}
+use lib.ListN.{length, get_or, set, replicate}
 use Rattle.machine.specs.Lanes.{tab}
 use Rattle.machine.specs.Words.{Tables, half_of, pair_of, source_value, source_size}
 use Rattle.machine.specs.declared.input.Input.{Input}
@@ -22,6 +22,11 @@ half_below h word b = go (eqb (h % 2) 0)
 
 pub pair_below : (first second : ℕ) → first < 2 ^ 32 → second < 2 ^ 32 → pair_of first second < 2 ^ 64
 pair_below first second a b = omega arith
+
+-- a row of one value is the row that has it for each thread
+pub row_alike : (v : ℕ) → replicate 32 v ≡ tab 32 (λ t. v)
+unfolding tab
+row_alike v = refl
 
 -- a row of values that are within the size
 pub row_made : (f : ℕ → ℕ) (size : ℕ) (row : List ℕ) → row ≡ tab 32 f → ((t : ℕ) → f t < 2 ^ size) → Row row f size

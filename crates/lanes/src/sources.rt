@@ -1,66 +1,41 @@
-// The sources of all threads, a row of 32 values for each. Each loop makes its row apart and then puts it in place, so that the
-// compiler sees that what it reads is not what it writes.
-ghost use Rattle.std.specs.Prelude.{◌≡◌, ℕ, ◌+◌, ◌*◌, ◌/◌, ◌≤◌, ◌<◌, length, get_or};
+// The sources of all threads, a row of 32 values for each.
+ghost use Rattle.std.specs.Prelude.{◌≡◌, ◌+◌, ◌*◌, ◌/◌, ◌≤◌, ◌<◌, length, get_or};
 ghost use Rattle.machine.specs.Lanes.{tab};
 ghost use Rattle.machine.specs.Words.{half_of, pair_of, word_at, source_value, source_size, source_reach};
 ghost use Rattle.lanes.specs.Sources.{Row, RowOver, Bounded, Reached, half_at, pair_at, lent, gather_over};
 
 use isa::operand::Source;
 use machine::input::Input;
+use std::array;
 
 // ---- a row of what each thread has
 
-fn words(file: &[u32], r: usize, row: &mut [u64; 32])
+fn words(file: &[u32], r: u8) -> [u64; 32]
     requires { 32 * (r + 1) ≤ length file.now }
-    ensures { row.new ≡ tab 32 (word_at file.now r) }
+    ensures { result ≡ tab 32 (word_at file.now r) }
 {
-    let base = 32 * r;
-    let mut out = [0u64; 32];
-    let mut t = 0;
-    while t < 32 {
-        out[t] = lane::wide(file[base + t]);
-        t += 1;
-    }
-    *row = out;
+    let base = 32 * usize::from(r);
+    array::from_fn(|t| u64::from(file[base + t]))
 }
 
-fn halves(file: &[u32], h: u8, row: &mut [u64; 32])
+fn halves(file: &[u32], h: u8) -> [u64; 32]
     requires { 32 * (h / 2 + 1) ≤ length file.now }
-    ensures { row.new ≡ tab 32 (half_at file.now h) }
+    ensures { result ≡ tab 32 (half_at file.now h) }
 {
-    let base = 32 * lane::index(h / 2);
-    let place = lane::place(h as u16);
-    let mut out = [0u64; 32];
-    let mut t = 0;
-    while t < 32 {
-        out[t] = lane::part(file[base + t], place);
-        t += 1;
-    }
-    *row = out;
+    let base = 32 * usize::from(h / 2);
+    let place = lane::place(u16::from(h));
+    array::from_fn(|t| lane::part(file[base + t], place))
 }
 
-fn pairs(file: &[u32], r: usize, row: &mut [u64; 32])
+fn pairs(file: &[u32], r: u8) -> [u64; 32]
     requires { 32 * (r + 2) ≤ length file.now }
-    ensures { row.new ≡ tab 32 (pair_at file.now r) }
+    ensures { result ≡ tab 32 (pair_at file.now r) }
 {
-    let base = 32 * r;
-    let next = base + 32;
-    let mut out = [0u64; 32];
-    let mut t = 0;
-    while t < 32 {
-        out[t] = lane::pair(file[base + t], file[next + t]);
-        t += 1;
-    }
-    *row = out;
+    let first = usize::from(r);
+    array::from_fn(|t| lane::pair(file[32 * first + t], file[32 * (first + 1) + t]))
 }
 
-// ---- a row of what all threads have alike
-
-fn fill(v: u64, row: &mut [u64; 32])
-    ensures { row.new ≡ tab 32 (λ (t : ℕ). v) }
-{
-    *row = [v; 32];
-}
+// ---- what all threads have alike
 
 // A uniform that is not lent is 0.
 fn uniform(uniforms: &[u32], i: usize) -> u32
@@ -72,31 +47,30 @@ fn uniform(uniforms: &[u32], i: usize) -> u32
 fn uniform_half(uniforms: &[u32], h: u16) -> u64
     ensures { result ≡ half_of h (get_or uniforms.now (h / 2) 0) }
 {
-    let i = (h / 2) as usize;
-    lane::part(uniform(uniforms, i), lane::place(h))
+    lane::part(uniform(uniforms, usize::from(h / 2)), lane::place(h))
 }
 
 fn uniform_pair(uniforms: &[u32], r: u8) -> u64
     ensures { result ≡ pair_of (get_or uniforms.now r 0) (get_or uniforms.now (r + 1) 0) }
 {
-    let i = lane::index(r);
+    let i = usize::from(r);
     lane::pair(uniform(uniforms, i), uniform(uniforms, i + 1))
 }
 
 // ---- a row for each source
 
-fn source(registers: &[u32], uniforms: &[u32], s: Source, row: &mut [u64; 32])
+fn source(registers: &[u32], uniforms: &[u32], s: Source) -> [u64; 32]
     requires { 32 * source_reach s ≤ length registers.now }
-    ensures { Row row.new (source_value registers.now uniforms.now s) (source_size s) }
+    ensures { Row result (source_value registers.now uniforms.now s) (source_size s) }
 {
     match s {
-        Source::Half(h) => halves(registers, h, row),
-        Source::Register(r) => words(registers, lane::index(r), row),
-        Source::Pair(r) => pairs(registers, lane::index(r), row),
-        Source::UniformHalf(h) => fill(uniform_half(uniforms, h), row),
-        Source::UniformRegister(r) => fill(lane::wide(uniform(uniforms, lane::index(r))), row),
-        Source::UniformPair(r) => fill(uniform_pair(uniforms, r), row),
-        Source::Immediate(v) => fill(v as u64, row),
+        Source::Half(h) => halves(registers, h),
+        Source::Register(r) => words(registers, r),
+        Source::Pair(r) => pairs(registers, r),
+        Source::UniformHalf(h) => [uniform_half(uniforms, h); 32],
+        Source::UniformRegister(r) => [u64::from(uniform(uniforms, usize::from(r))); 32],
+        Source::UniformPair(r) => [uniform_pair(uniforms, r); 32],
+        Source::Immediate(v) => [u64::from(v); 32],
     }
 }
 
@@ -109,9 +83,9 @@ fn input(registers: &[u32], uniforms: &[u32], specials: &[u32], x: Input, row: &
         Input::Nothing => {}
         Input::Operand(a) => {
             let s = a.source;
-            source(registers, uniforms, s, row);
+            *row = source(registers, uniforms, s);
         }
-        Input::Special(k) => words(specials, lane::index(k), row),
+        Input::Special(k) => *row = words(specials, k),
     }
 }
 

@@ -10,16 +10,12 @@ use isa::parts::Parts;
 pub fn lay_out(p: Parts, n: u8) -> [u8; 48]
     ensures { result ≡ lay_with p n }
 {
-    let i1 = p.immediate / 256;
-    let i2 = i1 / 256;
-    let i3 = i2 / 256;
-    let k1 = p.kept / 256;
-    let k2 = k1 / 256;
-    let k3 = k2 / 256;
-    let k4 = k3 / 256;
-    let k5 = k4 / 256;
-    let k6 = k5 / 256;
-    let k7 = k6 / 256;
+    let d = p.d.number.to_le_bytes();
+    let a = p.a.number.to_le_bytes();
+    let b = p.b.number.to_le_bytes();
+    let c = p.c.number.to_le_bytes();
+    let immediate = p.immediate.to_le_bytes();
+    let kept = p.kept.to_le_bytes();
     [
         // 0: kind, length, l, m
         p.kind,
@@ -29,25 +25,25 @@ pub fn lay_out(p: Parts, n: u8) -> [u8; 48]
         // 4: d, a, b, c
         p.d.kind,
         p.d.hint,
-        (p.d.number % 256) as u8,
-        (p.d.number / 256 % 256) as u8,
+        d[0],
+        d[1],
         p.a.kind,
         p.a.hint,
-        (p.a.number % 256) as u8,
-        (p.a.number / 256 % 256) as u8,
+        a[0],
+        a[1],
         p.b.kind,
         p.b.hint,
-        (p.b.number % 256) as u8,
-        (p.b.number / 256 % 256) as u8,
+        b[0],
+        b[1],
         p.c.kind,
         p.c.hint,
-        (p.c.number % 256) as u8,
-        (p.c.number / 256 % 256) as u8,
+        c[0],
+        c[1],
         // 20: immediate
-        (p.immediate % 256) as u8,
-        (i1 % 256) as u8,
-        (i2 % 256) as u8,
-        (i3 % 256) as u8,
+        immediate[0],
+        immediate[1],
+        immediate[2],
+        immediate[3],
         // 24: saturate, negate, the signs of a, b, c, shift
         p.signs.saturate,
         p.signs.negate,
@@ -68,13 +64,13 @@ pub fn lay_out(p: Parts, n: u8) -> [u8; 48]
         0,
         0,
         // 40: kept
-        (p.kept % 256) as u8,
-        (k1 % 256) as u8,
-        (k2 % 256) as u8,
-        (k3 % 256) as u8,
-        (k4 % 256) as u8,
-        (k5 % 256) as u8,
-        (k6 % 256) as u8,
-        (k7 % 256) as u8,
+        kept[0],
+        kept[1],
+        kept[2],
+        kept[3],
+        kept[4],
+        kept[5],
+        kept[6],
+        kept[7],
     ]
 }

@@ -9,14 +9,15 @@ ghost use Rattle.isa.specs.Parts.{length_for};
 use isa::parts::Parts;
 use rows::row_at;
 
-// The place in the list of the diagram of a kind: kinds begin with 1.
+// The place in the list of the diagram of a kind: kinds begin with 1. A number, since `length_for` answers for any kind, 0 too.
 fn place_of(kind: u8) -> usize
     ensures { result ≡ kind - 1 }
 {
-    if kind == 0 { 0 } else { (kind as usize) - 1 }
+    usize::from(kind.saturating_sub(1))
 }
 
 // The length and the bit L of the row at a place. Each asked for alone, they are a few comparisons in the compiled code.
+// A place is a number, as in the definition: `row_at` and `read_at` take the place in the list of the document.
 fn bytes_at(place: usize) -> usize
     requires { place < 22 }
     ensures { result ≡ (row_at place).bytes }

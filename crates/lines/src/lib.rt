@@ -19,6 +19,7 @@ pub fn line_length(place: usize, k: usize) -> usize
     5 + 2 * k + heading::tail_length(place)
 }
 
+// A place in a lent buffer, since the caller lends all the room at once: no heap, and `sets` in the clause is of the whole buffer.
 pub fn put_line(text: &mut [u8], n: usize, at: usize, bytes: &[u8], place: usize)
     requires { (n + (5 + 2 * length bytes.now + length (tail_at place)) ≤ length text.old) × (at < 65536) × (place < 22) }
     ensures { text.new ≡ sets text.old n (line_at at bytes.now place) }

@@ -6,7 +6,6 @@ ghost use Rattle.input.specs.Counts.{IsPrefixLen};
 ghost use Rattle.listing.specs.Listing.{listing_of};
 ghost use Rattle.lister.specs.Program.{Lists};
 
-use listing::Listed;
 use std::io;
 use std::io::{Read, Write};
 
@@ -16,10 +15,7 @@ fn list_whole(code: &[u8], text: &mut [u8]) -> usize
     ensures prefix_len { IsPrefixLen result text.new }
     ensures text_after { take result text.new ≡ listing_of code.now }
 {
-    match listing::list(code, text) {
-        Listed::Wrote(n) => n,
-        Listed::Refused(_) => 0,
-    }
+    listing::list(code, text).unwrap()
 }
 
 // With one byte more than the most that are listed, or after a read that failed, the listing is that of a kernel too long.

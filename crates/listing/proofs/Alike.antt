@@ -1,7 +1,7 @@
 -- Kernels that are listed alike: they agree up to the place where the listing stops, and altogether where it says `end`.
 use mathlib.Core.Path.{◌≡◌, refl, sym, ap, ◌∙◌}
 use mathlib.Core.List.{List, [], ◌∷◌}
-use mathlib.Core.Option.{none}
+use Rattle.std.proofs.Common.{None}
 use Prim.Native.Nat.{ℕ, ◌+◌}
 use lib.ListN.{length}
 use Rattle.bits.proofs.Laws.{Bytes}
@@ -31,7 +31,7 @@ module _ (a b : List ℕ) (bytes-a : Bytes a) (bytes-b : Bytes b) (same : listin
       (t.0, s, t.1)
 
   -- No two different kernels are listed alike, where nothing is refused.
-  pub alike : refusal_of (walk_of a) ≡ none → a ≡ b
+  pub alike : refusal_of (walk_of a) ≡ None → a ≡ b
   alike none-a =
       let t = alike_before in
       sym (shown-whole a none-a) ∙ t.0 ∙ shown-whole b (sym t.2 ∙ none-a)

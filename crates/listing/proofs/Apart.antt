@@ -2,7 +2,7 @@
 use mathlib.Core.Path.{◌≡◌, refl, sym, ap, ap₂, ◌∙◌}
 use mathlib.Core.Bool.{cond}
 use mathlib.Core.List.{List, [], ◌∷◌, ◌++◌, append_assoc}
-use mathlib.Core.Option.{some}
+use Rattle.std.proofs.Common.{Some}
 use Prim.Native.Nat.{ℕ, suc, ◌/◌, ◌<◌}
 use native.Mathlib.Omega.{arith}
 use lib.Dec.{eqb}
@@ -85,7 +85,7 @@ text_same (ended a) (stepped b t j w) p q e = let z = ap mark e in absurd (omega
 text_same (refused a r) (ended b) p q e = let z = ap mark e in absurd (omega arith)
 text_same (refused a r) (refused b x) p q e =
     let z : digit (number_of r) ≡ digit (number_of x) = ap (λ (l : List ℕ). get_or l 13 0) e in
-    (refl, ap some (sym (named-digit r) ∙ ap named z ∙ named-digit x))
+    (refl, ap Some (sym (named-digit r) ∙ ap named z ∙ named-digit x))
 text_same (refused a r) (stepped b t j w) p q e = let z = ap mark e in absurd (omega (arith, mark_step b t j w q.0))
 text_same (stepped a s i v) (ended b) p q e = let z = ap mark e in absurd (omega (arith, mark_step a s i v p.0))
 text_same (stepped a s i v) (refused b r) p q e = let z = ap mark e in absurd (omega (arith, mark_step a s i v p.0))

@@ -1,8 +1,9 @@
 -- A text of 65,536 bytes has room for every listing.
+use Rattle.std.proofs.Common.{Result, Ok, IsOk}
 use mathlib.Core.Path.{◌≡◌, refl, ap}
 use mathlib.Core.Bool.{Bool, true, false, cond}
 use mathlib.Core.List.{List, [], ◌∷◌, ◌++◌}
-use Prim.Native.Nat.{ℕ, zero, suc, ◌+◌, ◌*◌, ◌≤◌}
+use Prim.Native.Nat.{ℕ, zero, suc, ◌+◌, ◌*◌, ◌≤◌, ◌<◌}
 use native.Mathlib.Omega.{arith}
 use lib.Dec.{leb}
 use lib.ListN.{length, take, drop, length-append, length-take, length-drop}
@@ -18,10 +19,15 @@ use Rattle.walk.specs.Walk.{Walk, refused, stepped, walk_from, walk_of, limit}
 use Rattle.walk.proofs.Steps.{step-all}
 use Rattle.lines.specs.Line.{line_of, tail_at, end_line, refused_line}
 use Rattle.listing.specs.Listing.{text_of, listing_of, listed_of, listing_left}
-use Rattle.listing.specs.declared.Listed.{Listed}
 use Rattle.lines.proofs.Lengths.{length_line}
+use Rattle.isa.specs.Rows.{rows}
+use Rattle.bits.proofs.Table.{agree}
 use Rattle.isa.proofs.Placed.{place_below}
-use Rattle.lines.proofs.Headings.{size_right, size_small}
+
+-- no heading word is longer than 15 characters with its space and its line feed
+tail_short : (p : ℕ) → p < 22 → length (tail_at p) ≤ 15
+unfolding rows
+tail_short p h = leb-true (length (tail_at p)) 15 (agree 22 (λ k. leb (length (tail_at k)) 15) (λ k. true) refl p h)
 
 -- an instruction of n bytes, at least four, takes at most 7 * n
 room-step : (at n : ℕ) (s : List ℕ) (i : Instruction) (w : Walk) → 4 ≤ n → n ≤ length s
@@ -33,7 +39,7 @@ room-step at n s i w h g r =
     let a = length-append (line_of at (take n s) i) (text_of w) in
     let b = length_line at (take n s) (place_of i) in
     let t : length (take n s) ≡ n = rw length-take (omega arith) in
-    let e : length (tail_at (place_of i)) ≤ 15 = rw (← size_right (place_of i) p) (size_small (place_of i) p) in
+    let e = tail_short (place_of i) p in
     let d = length-drop n s in
     omega arith
 
@@ -61,20 +67,20 @@ room code = one (leb (length code) limit) refl
     one false e = omega arith
 
 -- the call on a text of 65,536 bytes: it is not refused, and leaves the listing at the start
-module _ (code old new : List ℕ) (r : Listed) (h : 65536 ≡ length old) (e : r ≡ listed_of code (length old))
+module _ (code old new : List ℕ) (r : Result ℕ Refusal) (h : 65536 ≡ length old) (e : r ≡ listed_of code (length old))
     (f : new ≡ listing_left code old) where
   fits : leb (length (listing_of code)) (length old) ≡ true
   fits = le-leb (length (listing_of code)) (length old) (omega (arith, room code))
 
-  pub not-refused : (x : Refusal) → r ≡ Listed.Refused x → ⊥
-  not-refused x g =
-      let w : r ≡ Listed.Wrote (length (listing_of code)) = rw fits at e in
-      let z : ◌≡◌ {A = ℕ} 0 1 = cc in
-      omega arith
+  accepted : r ≡ Ok (length (listing_of code))
+  accepted = rw fits at e
 
-  pub whole : (n : ℕ) → r ≡ Listed.Wrote n → (n ≤ length new) × (take n new ≡ listing_of code)
+  pub not-refused : IsOk r
+  not-refused = rw accepted refl
+
+  pub whole : (n : ℕ) → r ≡ Ok n → (n ≤ length new) × (take n new ≡ listing_of code)
   whole n g =
-      let w : r ≡ Listed.Wrote (length (listing_of code)) = rw fits at e in
+      let w = accepted in
       let v : new ≡ listing_of code ++ drop (length (listing_of code)) old = rw fits at f in
       let l : n ≡ length (listing_of code) = cc in
       let a = length-append (listing_of code) (drop (length (listing_of code)) old) in

@@ -9,23 +9,17 @@ mod text;
 
 use isa::answer::Refusal;
 
-// The number of bytes written, or the refusal.
-#[derive(Clone, Copy)]
-pub enum Listed {
-    Wrote(usize),
-    Refused(Refusal),
-}
-
-// Lists the code at the start of the text. Where the text is too short for it, nothing is written.
-pub fn list(code: &[u8], text: &mut [u8]) -> Listed
+// Lists the code at the start of the text, and answers the number of bytes written. Where the text is too short for it, nothing is
+// written.
+pub fn list(code: &[u8], text: &mut [u8]) -> Result<usize, Refusal>
     ensures { (result ≡ listed_of code.now (length text.old))
         × (text.new ≡ listing_left code.now text.old) }
 {
     let n = text::measure(code);
     if n <= text.len() {
         text::write(code, text);
-        Listed::Wrote(n)
+        Ok(n)
     } else {
-        Listed::Refused(Refusal::BadSize)
+        Err(Refusal::BadSize)
     }
 }

@@ -1,5 +1,5 @@
 pub mod Tab
-pub mod Rows
+pub mod Made
 pub mod Masks
 pub mod Marks
 pub mod Compares

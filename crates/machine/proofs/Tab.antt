@@ -1,13 +1,13 @@
 -- Laws of what is made for each lane: lists, and changes one after the other.
-use mathlib.Core.Path.{◌≡◌, refl, ap, ◌∙◌}
-use mathlib.Core.List.{List, [], ◌∷◌, ◌++◌, append_assoc, append-nil}
+use mathlib.Core.Path.{◌≡◌, refl, sym, ap, ◌∙◌}
+use mathlib.Core.List.{List, [], ◌∷◌, ◌++◌}
 use Prim.Native.Nat.{ℕ, zero, suc, ◌+◌, ◌<◌}
-use lib.ListN.{length, get_or, set, drop, length-append, get_or-append, drop_of_length-le}
-use lib.Seq.{get_or_at, set_at, drop-cons}
+use lib.ListN.{length, get_or, length-append, get_or-append}
+use lib.Seq.{get_or_at}
 use native.Mathlib.Decide.{dec_lt}
-use native.Mathlib.Nat.{le_of_eq}
 use native.Mathlib.Omega.{arith}
 use native.Mathlib.Numerals.{add-one}
+use Rattle.std.proofs.lemmas.Grind.{same_number_lists}
 use Rattle.machine.specs.Lanes.{tab, each}
 
 pub length-tab {ℓ} : {A : Type ℓ} (n : ℕ) (f : ℕ → A) → length (tab n f) ≡ n
@@ -26,24 +26,10 @@ get_or-tab (suc n) f i d h = go (dec_lt i n) (get_or-tab n f i d)
         let e : i ≡ n = omega arith in
         rw e (get_or_at (tab n f) (f n) [] d n (length-tab n f))
 
--- a list that a loop fills from the front: its first n elements are f's
-abbrev pub filled {ℓ} : {A : Type ℓ} → (ℕ → A) → ℕ → List A → List A
-filled f n l = tab n f ++ drop n l
-
-pub filled_none {ℓ} : {A : Type ℓ} (f : ℕ → A) (l : List A) → l ≡ filled f 0 l
-unfolding tab
-filled_none f l = refl
-
-pub filled_more {ℓ} : {A : Type ℓ} (f : ℕ → A) (n : ℕ) (l : List A) (v : A) → n < length l → v ≡ f n
-    → set (filled f n l) n v ≡ filled f (n + 1) l
-unfolding tab
-filled_more f n l v h e =
-    ap (λ (m : List _). set (tab n f ++ m) n v) (drop-cons l n v h)
-    ∙ set_at (tab n f) (get_or l n v) (drop (suc n) l) v n (length-tab n f)
-    ∙ rw (add-one, append_assoc, e)
-
-pub filled-all {ℓ} : {A : Type ℓ} (f : ℕ → A) (n : ℕ) (l : List A) → length l ≡ n → filled f n l ≡ tab n f
-filled-all f n l e = rw (drop_of_length-le l {i = n} (le_of_eq e), append-nil)
+-- a list of n numbers, each of them f's
+pub tab_is : (n : ℕ) (f : ℕ → ℕ) (l : List ℕ) → length l ≡ n → ((t : ℕ) → t < n → get_or l t 0 ≡ f t) → l ≡ tab n f
+tab_is n f l e h =
+    same_number_lists l (tab n f) (e ∙ sym (length-tab n f)) (λ t k. h t (omega arith) ∙ sym (get_or-tab n f t 0 (omega arith)))
 
 -- equal elements make equal lists
 pub tab_cong {ℓ} : {A : Type ℓ} (n : ℕ) (f g : ℕ → A) → ((t : ℕ) → t < n → f t ≡ g t) → tab n f ≡ tab n g

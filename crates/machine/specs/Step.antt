@@ -1,10 +1,10 @@
 -- One step of the 32 threads: which instructions are refused, what the others do to registers, marks, mask and address, and their class.
 -- Follows "One step" and "Refusal numbers" of the statement of what to build, and the change request on discard.
-use Rattle.std.specs.Prelude.{ℕ, ◌+◌, ◌*◌, ◌%◌, max, Bool, cond, not, List, [], ◌∷◌, eqb, leb, length, get_or, drop, ℤ, pos, negsuc, ◌+ℤ◌}
+use Rattle.std.specs.Prelude.{ℕ, ◌+◌, ◌*◌, ◌%◌, max, Bool, cond, not, List, [], ◌∷◌, eqb, leb, length, get_or, drop, ℤ, pos, negsuc, ◌+ℤ◌, Ok, Err}
 use Rattle.isa.specs.Decode.{decode_of}
 use Rattle.isa.specs.Refusal.{refusal}
 use Rattle.isa.specs.declared.answer.Refusal.{Refusal}
-use Rattle.isa.specs.declared.answer.Decoded.{Decoded}
+use Rattle.isa.specs.Answer.{Decoded}
 use Rattle.isa.specs.declared.operand.Destination.{Destination}
 use Rattle.isa.specs.declared.operand.Source.{Source}
 use Rattle.isa.specs.declared.operand.Hint.{Hint}
@@ -137,8 +137,8 @@ go_to (to address class) i bytes tables s =
 go_to (nowhere r) i bytes tables s = refused r
 
 unfoldable pub step_by : Decoded → ℕ → Tables → State → Stepped
-step_by (Decoded.Refused r) code_length tables s = refused r
-step_by (Decoded.Found i bytes) code_length tables s =
+step_by (Err r) code_length tables s = refused r
+step_by (Ok (i, bytes)) code_length tables s =
     cond (leb (32 * registers_reach (meaning_of i)) (length s.threads.registers))
     (cond (leb (32 * specials_reach (meaning_of i)) (length tables.specials))
     (cond (reads_marked (meaning_of i) s.threads)

@@ -2,24 +2,23 @@
 use mathlib.Core.Path.{◌≡◌, refl, sym, ap, ap₂, ◌∙◌}
 use mathlib.Core.Bool.{Bool, true, false, cond, not}
 use mathlib.Core.List.{List, [], ◌∷◌, ◌++◌}
-use Prim.Native.Nat.{ℕ, zero, suc, ◌+◌, ◌*◌, ◌≤◌, ◌<◌}
+use Prim.Native.Nat.{ℕ, zero, suc, ◌+◌, ◌-◌, ◌*◌, ◌<◌}
 use native.Mathlib.Omega.{arith}
 use borrow.Author.Tests.{not-true}
 use lib.Dec.{eqb}
 use lib.ListN.{get_or}
 use Rattle.machine.specs.Lanes.{active_in, pack}
-use Rattle.machine.specs.Words.{half_of, word_at, source_reach}
+use Rattle.machine.specs.Words.{half_of, word_at}
 use Rattle.machine.specs.Meaning.{writes, masks, both, either}
 use Rattle.machine.specs.State.{Threads}
 use Rattle.machine.specs.Step.{Result}
-use Rattle.machine.specs.Marks.{halves_from, source_halves, any_of, marked_in, input_halves, reads_of, reads_marked}
+use Rattle.machine.specs.Marks.{halves_from, any_of, marked_in, input_halves, reads_of, reads_marked}
 use Rattle.machine.specs.declared.input.Input.{Input}
 use Rattle.machine.proofs.Masks.{pack_bit, all_active_lem}
 use Rattle.machine.proofs.Marks.{any_of-append, any_below_cong, any_below-none, any_below_false, any_below-either}
 use Rattle.isa.specs.declared.operand.Destination.{Destination}
-use Rattle.isa.specs.declared.operand.Source.{Source}
 use Rattle.markrows.specs.Rows.{block_marked, row_marked_by}
-use Rattle.markreads.specs.Marked.{halves_marked, first_of, count_of, data_reads, mask_reads}
+use Rattle.markreads.specs.Marked.{halves_marked, data_reads, mask_reads}
 
 nothing : (p : Bool) → both p false ≡ false
 nothing true = refl
@@ -65,6 +64,19 @@ module _ (marks : List ℕ) where
       → q ≡ halves_marked marks who (a ++ b)
   either_false who a b e t f = f ∙ sym (of_two who a b ∙ ap (λ (p : Bool). either p (halves_marked marks who b)) (sym e ∙ t))
 
+  -- of the halves from i on, before e: i is marked, or else those after it say it
+  pub marked_here : (who i e : ℕ) → i < e → row_marked_by marks i who ≡ true → halves_marked marks who (halves_from i (e - i)) ≡ true
+  marked_here who i e k t =
+      let s : e - i ≡ suc (e - suc i) = omega arith in
+      rw s (sym (either_true who (i ∷ []) (halves_from (suc i) (e - suc i)) (sym (of_one who i)) t))
+
+  pub marked_next : (who i e : ℕ) → i < e → row_marked_by marks i who ≡ false
+      → halves_marked marks who (halves_from i (e - i)) ≡ halves_marked marks who (halves_from (i + 1) (e - (i + 1)))
+  marked_next who i e k f =
+      let s : e - i ≡ suc (e - (i + 1)) = omega arith in
+      let p : i + 1 ≡ suc i = omega arith in
+      rw (s, p) (sym (either_false who (i ∷ []) (halves_from (suc i) (e - suc i)) (sym (of_one who i)) f refl))
+
   -- halves in a row that are clear
   none_from : (t h n : ℕ) → ((k : ℕ) → k < n → marked_in marks t (h + k) ≡ false) → any_of (marked_in marks t) (halves_from h n) ≡ false
   none_from t h zero f = refl
@@ -93,26 +105,6 @@ module _ (marks : List ℕ) where
       let c : any_of (marked_in marks t) l ≡ false =
       rw (all_active_lem t k) at (any_below_false 32 (λ u. both (active_in 4294967295 u) (any_of (marked_in marks u) l)) e t k) in
       ap (both (active_in who t)) c ∙ nothing (active_in who t))
-
--- the halves of a source are those
-pub halves_are : (s : Source) → source_halves s ≡ halves_from (first_of s) (count_of s)
-halves_are (Source.Half h) = refl
-halves_are (Source.Register r) = refl
-halves_are (Source.Pair r) = refl
-halves_are (Source.UniformHalf h) = refl
-halves_are (Source.UniformRegister r) = refl
-halves_are (Source.UniformPair r) = refl
-halves_are (Source.Immediate v) = refl
-
--- and reach no further than its registers
-pub halves_room : (s : Source) → first_of s + count_of s ≤ 2 * source_reach s
-halves_room (Source.Half h) = omega arith
-halves_room (Source.Register r) = omega arith
-halves_room (Source.Pair r) = omega arith
-halves_room (Source.UniformHalf h) = omega arith
-halves_room (Source.UniformRegister r) = omega arith
-halves_room (Source.UniformPair r) = omega arith
-halves_room (Source.Immediate v) = omega arith
 
 -- neither is marked in any thread
 pub both-clear : (marks : List ℕ) (who : ℕ) (a b : List ℕ) {r q : Bool} → r ≡ halves_marked marks 4294967295 a → not r ≡ true

@@ -1,7 +1,6 @@
 -- Whether any of some threads, a bit each as in a mask, has any of some halves marked; and that of the halves and threads that an
 -- instruction reads by.
-use Rattle.std.specs.Prelude.{ℕ, ◌*◌, Bool, List, ◌++◌}
-use Rattle.isa.specs.declared.operand.Source.{Source}
+use Rattle.std.specs.Prelude.{ℕ, Bool, List, ◌++◌}
 use Rattle.machine.specs.Lanes.{active_in, any_below, pack}
 use Rattle.machine.specs.Words.{half_of, word_at}
 use Rattle.machine.specs.Meaning.{both, either}
@@ -10,25 +9,6 @@ use Rattle.machine.specs.declared.input.Input.{Input}
 
 unfoldable pub halves_marked : List ℕ → ℕ → List ℕ → Bool
 halves_marked marks who halves = any_below 32 (λ t. both (active_in who t) (any_of (marked_in marks t) halves))
-
--- the first half of a source, and how many it has
-abbrev pub first_of : Source → ℕ
-first_of (Source.Half h) = h
-first_of (Source.Register r) = 2 * r
-first_of (Source.Pair r) = 2 * r
-first_of (Source.UniformHalf h) = 0
-first_of (Source.UniformRegister r) = 0
-first_of (Source.UniformPair r) = 0
-first_of (Source.Immediate v) = 0
-
-abbrev pub count_of : Source → ℕ
-count_of (Source.Half h) = 1
-count_of (Source.Register r) = 2
-count_of (Source.Pair r) = 4
-count_of (Source.UniformHalf h) = 0
-count_of (Source.UniformRegister r) = 0
-count_of (Source.UniformPair r) = 0
-count_of (Source.Immediate v) = 0
 
 -- a data instruction reads by active threads
 abbrev pub data_reads : List ℕ → Input → Input → Input → ℕ → Bool

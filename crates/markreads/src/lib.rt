@@ -5,86 +5,39 @@ ghost use Rattle.std.specs.Prelude.{◌≡◌, ◌+◌, ◌*◌, ◌≤◌, leng
 ghost use Rattle.machine.specs.Words.{source_reach, input_reach};
 ghost use Rattle.machine.specs.Marks.{halves_from, source_halves, input_halves};
 ghost use Rattle.operations.specs.Operation.{compares_by};
-ghost use Rattle.markreads.specs.Marked.{halves_marked, first_of, count_of, data_reads, comparing, compared_reads, mask_reads};
+ghost use Rattle.markreads.specs.Marked.{halves_marked, data_reads, comparing, compared_reads, mask_reads};
 
 use isa::operand::Source;
 use machine::input::Input;
+use markrows::ALL;
 use operations::Operation;
-
-// The mask of all threads.
-const ALL: u32 = 0xffffffff;
 
 // ---- whether any of some threads, a bit each, has a half marked
 
-fn half(marks: &[u8], h: usize, who: u32) -> bool
-    requires { 32 * (h + 1) ≤ length marks.now }
-    ensures { result ≡ halves_marked marks.now who (halves_from h 1) }
+// Any of n halves, from h on. Where they are clear in all threads, as they mostly are, no thread's bit is looked at.
+fn halves(marks: &[u8], h: usize, n: usize, who: u32) -> bool
+    requires { 32 * (h + n) ≤ length marks.now }
+    ensures { result ≡ halves_marked marks.now who (halves_from h n) }
 {
-    markrows::marked_by(marks, h, who)
-}
-
-fn register(marks: &[u8], h: usize, who: u32) -> bool
-    requires { 32 * (h + 2) ≤ length marks.now }
-    ensures { result ≡ halves_marked marks.now who (halves_from h 2) }
-{
-    if half(marks, h, who) {
-        return true;
+    if !markrows::any(marks, h, n) {
+        return false;
     }
-    half(marks, h + 1, who)
-}
-
-fn pair(marks: &[u8], h: usize, who: u32) -> bool
-    requires { 32 * (h + 4) ≤ length marks.now }
-    ensures { result ≡ halves_marked marks.now who (halves_from h 4) }
-{
-    if register(marks, h, who) {
-        return true;
+    for i in h..h + n {
+        if markrows::marked_by(marks, i, who) {
+            return true;
+        }
     }
-    register(marks, h + 2, who)
+    false
 }
 
-// The first half of a source.
-fn first(s: Source) -> usize
-    ensures { result ≡ first_of s }
-{
-    match s {
-        Source::Half(h) => lane::index(h),
-        Source::Register(r) => 2 * lane::index(r),
-        Source::Pair(r) => 2 * lane::index(r),
-        Source::UniformHalf(_) => 0,
-        Source::UniformRegister(_) => 0,
-        Source::UniformPair(_) => 0,
-        Source::Immediate(_) => 0,
-    }
-}
-
-// How many it has.
-fn count(s: Source) -> usize
-    ensures { result ≡ count_of s }
-{
-    match s {
-        Source::Half(_) => 1,
-        Source::Register(_) => 2,
-        Source::Pair(_) => 4,
-        Source::UniformHalf(_) => 0,
-        Source::UniformRegister(_) => 0,
-        Source::UniformPair(_) => 0,
-        Source::Immediate(_) => 0,
-    }
-}
-
-// Where its halves are clear in all threads, as they mostly are, no thread's bit is looked at.
 fn source(marks: &[u8], s: Source, who: u32) -> bool
     requires { 64 * source_reach s ≤ length marks.now }
     ensures { result ≡ halves_marked marks.now who (source_halves s) }
 {
-    if !markrows::any(marks, first(s), count(s)) {
-        return false;
-    }
     match s {
-        Source::Half(h) => half(marks, lane::index(h), who),
-        Source::Register(r) => register(marks, 2 * lane::index(r), who),
-        Source::Pair(r) => pair(marks, 2 * lane::index(r), who),
+        Source::Half(h) => halves(marks, usize::from(h), 1, who),
+        Source::Register(r) => halves(marks, 2 * usize::from(r), 2, who),
+        Source::Pair(r) => halves(marks, 2 * usize::from(r), 4, who),
         Source::UniformHalf(_) => false,
         Source::UniformRegister(_) => false,
         Source::UniformPair(_) => false,
@@ -108,6 +61,7 @@ fn input(marks: &[u8], x: Input, who: u32) -> bool
 
 // ---- data instructions: by active threads
 
+// That the marks of the operands are lent is asked of each: a type of so many marks would be built for one call.
 pub fn data(marks: &[u8], a: Input, b: Input, c: Input, mask: u32) -> bool
     requires { (64 * input_reach a ≤ length marks.now) × (64 * input_reach b ≤ length marks.now) × (64 * input_reach c ≤ length marks.now) }
     ensures { result ≡ data_reads marks.now a b c mask }
@@ -129,7 +83,7 @@ fn compares(operation: Operation, v: u32) -> bool
 {
     match operation {
         Operation::IfIcmp(_) => v == 0,
-        Operation::WhileIcmp(o) => v < o.n as u32,
+        Operation::WhileIcmp(o) => v < u32::from(o.n),
         Operation::ElseIcmp(_) => v == 1,
         _ => false,
     }
@@ -140,13 +94,7 @@ fn comparing(operation: Operation, registers: &[u32]) -> u32
     requires { 32 ≤ length registers.now }
     ensures { result ≡ comparing (compares_by operation) registers.now }
 {
-    let mut who: u32 = 0;
-    let mut t = 0;
-    while t < 32 {
-        who += lane::bit(compares(operation, registers[t] % 65536), t);
-        t += 1;
-    }
-    who
+    lane::mask(|t| compares(operation, registers[t] % 65536))
 }
 
 // Which threads compare is found out only where A or B is marked in some thread.
@@ -170,7 +118,7 @@ pub fn masked(marks: &[u8], operation: Operation, a: Input, b: Input, registers:
     requires { (32 ≤ length registers.now) × (32 ≤ length marks.now) × (64 * input_reach a ≤ length marks.now) × (64 * input_reach b ≤ length marks.now) }
     ensures { result ≡ mask_reads marks.now (compares_by operation) a b registers.now }
 {
-    if half(marks, 0, ALL) {
+    if halves(marks, 0, 1, ALL) {
         return true;
     }
     compared(marks, operation, a, b, registers)

@@ -1,5 +1,5 @@
 -- A row of marks that a loop sets from the front: one more thread.
-use mathlib.Core.Path.{◌≡◌, refl, sym, ap, ◌∙◌}
+use mathlib.Core.Path.{◌≡◌, refl, sym, ◌∙◌}
 use mathlib.Core.Bool.{Bool, true, false, cond, not}
 use mathlib.Core.List.{List}
 use Prim.Native.Nat.{ℕ, suc, ◌+◌, ◌*◌, ◌/◌, ◌%◌, ◌≤◌, ◌<◌, max}
@@ -12,7 +12,6 @@ use lib.Seq.{ext_get_or, get_or-set_same, get_or-set_other}
 use Rattle.machine.specs.Lanes.{active_in}
 use Rattle.machine.specs.Meaning.{both}
 use Rattle.machine.specs.Marks.{each_mark}
-use Rattle.machine.proofs.Masks.{all_active_lem}
 use Rattle.machine.proofs.Marks.{length-each, get_or-each, each_cong, each-kept}
 use Rattle.markrows.specs.Rows.{row_set}
 
@@ -98,11 +97,3 @@ module _ (h who v : ℕ) (l : List ℕ) where
         go j m (no n) =
             get_or-set_other before i j now 0 n ∙ get_or-each (lane h who v t) l j 0 m ∙ there j n
             ∙ sym (get_or-each (lane h who v (suc t)) l j 0 m)
-
--- of one more, of all threads
-pub fill_more : (h v : ℕ) (l : List ℕ) (t : ℕ) → t < 32 → 32 * h + t < length l
-    → set (each_mark (lane h 4294967295 v t) l) (32 * h + t) v ≡ each_mark (lane h 4294967295 v (suc t)) l
-fill_more h v l t k room =
-    let before = each_mark (lane h 4294967295 v t) l in
-    let i = 32 * h + t in
-    ap (λ (on : Bool). set before i (cond on v (get_or before i 0))) (sym (all_active_lem t k)) ∙ set_more h 4294967295 v l t k room

@@ -44,10 +44,7 @@ fn masked(operation: Operation, a: Input, b: Input, registers: &[u32], marks: &m
 pub fn stays_quiet(quiet: bool, discards: bool) -> bool
     ensures { result ≡ both quiet (not discards) }
 {
-    if quiet {
-        return !discards;
-    }
-    false
+    quiet && !discards
 }
 
 // Refused, the marks stay as they were. A quiet step, where no mark is set and none will be, looks at none.

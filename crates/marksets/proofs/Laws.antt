@@ -2,13 +2,14 @@
 use mathlib.Core.Path.{◌≡◌, refl, sym, ap, ap₂, ◌∙◌}
 use mathlib.Core.Bool.{Bool, true, false, cond}
 use mathlib.Core.List.{List, [], ◌∷◌, ◌++◌}
-use Prim.Native.Nat.{ℕ, ◌<◌}
+use Prim.Native.Nat.{ℕ, suc, ◌+◌, ◌-◌, ◌<◌}
+use native.Mathlib.Omega.{arith}
 use lib.Dec.{eqb}
 use Rattle.isa.specs.declared.operand.Destination.{Destination}
 use Rattle.machine.specs.Lanes.{active_in}
 use Rattle.machine.specs.Meaning.{Meaning, writes, masks, both, either}
 use Rattle.machine.specs.Step.{Result}
-use Rattle.machine.specs.Marks.{any_of, input_discards, destination_halves, discards_of, clears_of, mark_after, marks_after}
+use Rattle.machine.specs.Marks.{halves_from, any_of, input_discards, destination_halves, discards_of, clears_of, mark_after, marks_after}
 use Rattle.machine.specs.declared.input.Input.{Input}
 use Rattle.machine.proofs.Masks.{all_active_lem}
 use Rattle.machine.proofs.Marks.{each_cong, each_then, each-kept, any_of-append}
@@ -50,6 +51,14 @@ set_two a b who v l =
     go false true false x = refl
     go false false true x = refl
     go false false false x = refl
+
+-- of the halves from i on, before e: one, and then those after it
+pub set_next : (i e who v : ℕ) (l : List ℕ) → i < e
+    → halves_set (halves_from i (e - i)) who v l ≡ halves_set (halves_from (i + 1) (e - (i + 1))) who v (halves_set (halves_from i 1) who v l)
+set_next i e who v l k =
+    let s : e - i ≡ suc (e - (i + 1)) = omega arith in
+    let p : i + 1 ≡ suc i = omega arith in
+    rw (s, p) (sym (set_two (i ∷ []) (halves_from (suc i) (e - suc i)) who v l))
 
 -- ---- instructions
 

@@ -9,9 +9,7 @@ ghost use Rattle.marksets.specs.Sets.{halves_set, data_sets, mask_sets};
 
 use isa::operand::{Destination, Hint, Source};
 use machine::input::Input;
-
-// The mask of all threads.
-const ALL: u32 = 0xffffffff;
+use markrows::ALL;
 
 // ---- the marks of some halves become v, in some threads, a bit each
 
@@ -27,20 +25,15 @@ fn half(marks: &mut [u8], h: usize, who: u32, v: u8)
     markrows::set(marks, h, who, v);
 }
 
-fn register(marks: &mut [u8], h: usize, who: u32, v: u8)
-    requires { 32 * (h + 2) ≤ length marks.old }
-    ensures { marks.new ≡ halves_set (halves_from h 2) who v marks.old }
+// Those of n halves, from h on.
+// That the marks of the halves are lent is asked of each: a type of so many marks would be built for one call.
+fn halves(marks: &mut [u8], h: usize, n: usize, who: u32, v: u8)
+    requires { 32 * (h + n) ≤ length marks.old }
+    ensures { marks.new ≡ halves_set (halves_from h n) who v marks.old }
 {
-    half(marks, h, who, v);
-    half(marks, h + 1, who, v);
-}
-
-fn pair(marks: &mut [u8], h: usize, who: u32, v: u8)
-    requires { 32 * (h + 4) ≤ length marks.old }
-    ensures { marks.new ≡ halves_set (halves_from h 4) who v marks.old }
-{
-    register(marks, h, who, v);
-    register(marks, h + 2, who, v);
+    for i in h..h + n {
+        half(marks, i, who, v);
+    }
 }
 
 // ---- what a source marks, and what a destination clears
@@ -50,9 +43,9 @@ fn source(marks: &mut [u8], s: Source, who: u32)
     ensures { marks.new ≡ halves_set (source_halves s) who 1 marks.old }
 {
     match s {
-        Source::Half(h) => half(marks, lane::index(h), who, 1),
-        Source::Register(r) => register(marks, 2 * lane::index(r), who, 1),
-        Source::Pair(r) => pair(marks, 2 * lane::index(r), who, 1),
+        Source::Half(h) => halves(marks, usize::from(h), 1, who, 1),
+        Source::Register(r) => halves(marks, 2 * usize::from(r), 2, who, 1),
+        Source::Pair(r) => halves(marks, 2 * usize::from(r), 4, who, 1),
         Source::UniformHalf(_) => {}
         Source::UniformRegister(_) => {}
         Source::UniformPair(_) => {}
@@ -84,9 +77,9 @@ fn destination(marks: &mut [u8], d: Destination, who: u32)
     ensures { marks.new ≡ halves_set (destination_halves d) who 0 marks.old }
 {
     match d {
-        Destination::Half(h) => half(marks, lane::index(h), who, 0),
-        Destination::Register(r) => register(marks, 2 * lane::index(r), who, 0),
-        Destination::Pair(r) => pair(marks, 2 * lane::index(r), who, 0),
+        Destination::Half(h) => halves(marks, usize::from(h), 1, who, 0),
+        Destination::Register(r) => halves(marks, 2 * usize::from(r), 2, who, 0),
+        Destination::Pair(r) => halves(marks, 2 * usize::from(r), 4, who, 0),
     }
 }
 

@@ -11,12 +11,6 @@ ghost use Rattle.nesting.specs.Rank.{rank_of};
 use operations::Test;
 use signs::extend;
 
-fn wide(x: u8) -> u64
-    ensures { result ≡ x }
-{
-    x as u64
-}
-
 // Where a value stands in the order of all words.
 fn rank(x: u64, signed: u8, size: u8) -> u64
     requires { Sized size }
@@ -24,7 +18,7 @@ fn rank(x: u64, signed: u8, size: u8) -> u64
 {
     let word = extend(x, signed, size);
     if signed == 1 {
-        std::num::wrapping_add_u64(word, 9223372036854775808)
+        word.wrapping_add(9223372036854775808)
     } else {
         word
     }
@@ -33,12 +27,10 @@ fn rank(x: u64, signed: u8, size: u8) -> u64
 fn compared(relation: u8, x: u64, y: u64) -> bool
     ensures { result ≡ meaning.compared relation (pos x) (pos y) }
 {
-    if relation == 0 {
-        x == y
-    } else if relation == 1 {
-        x < y
-    } else {
-        y < x
+    match relation {
+        0 => x == y,
+        1 => x < y,
+        _ => y < x,
     }
 }
 
@@ -61,16 +53,16 @@ pub fn holds(o: Test, a: u64, b: u64) -> bool
 pub fn pop_exec(n: u8, v: u64) -> u64
     ensures { (a b : ℕ) → result ≡ modulo (meaning.pop_exec n a b v) 64 }
 {
-    let m = wide(n);
-    if v < m { 0 } else { v - m }
+    v.saturating_sub(u64::from(n))
 }
 
+// o, a, b and v as in the definitions: a struct of them would name nothing.
 pub fn if_icmp(o: Test, a: u64, b: u64, v: u64) -> u64
     requires { SizedBy (Operation.IfIcmp o) × ValuesWithin (Operation.IfIcmp o) a b v }
     ensures { result ≡ modulo (meaning.if_icmp (condition_of o) o.n a b v) 64 }
 {
     if v != 0 {
-        v + wide(o.n)
+        v + u64::from(o.n)
     } else if holds(o, a, b) {
         v
     } else {
@@ -82,7 +74,7 @@ pub fn while_icmp(o: Test, a: u64, b: u64, v: u64) -> u64
     requires { SizedBy (Operation.WhileIcmp o) × ValuesWithin (Operation.WhileIcmp o) a b v }
     ensures { result ≡ modulo (meaning.while_icmp (condition_of o) o.n a b v) 64 }
 {
-    let n = wide(o.n);
+    let n = u64::from(o.n);
     if v < n {
         if holds(o, a, b) { 0 } else { n }
     } else {
@@ -90,12 +82,13 @@ pub fn while_icmp(o: Test, a: u64, b: u64, v: u64) -> u64
     }
 }
 
+// `if` and no `match`: v is the number in r0l, and no kind.
 pub fn else_icmp(o: Test, a: u64, b: u64, v: u64) -> u64
     requires { SizedBy (Operation.ElseIcmp o) × ValuesWithin (Operation.ElseIcmp o) a b v }
     ensures { result ≡ modulo (meaning.else_icmp (condition_of o) o.n a b v) 64 }
 {
     if v == 0 {
-        wide(o.n)
+        u64::from(o.n)
     } else if v == 1 {
         if holds(o, a, b) { 0 } else { 1 }
     } else {

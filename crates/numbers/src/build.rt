@@ -1,4 +1,5 @@
-// The parts of an instruction, one function for each layout; `kind` says which instruction it is.
+// The parts of an instruction, one function for each layout. `kind` is the number of the instruction in docs/byte-form.md, which callers in
+// C read, so it is a number here.
 ghost use Rattle.std.specs.Prelude.{◌≡◌};
 ghost use Rattle.isa.specs.Parts.{no_slot, no_signs, no_truth, no_condition, parts};
 ghost use Rattle.isa.specs.Parts.{of_dst, of_unary, of_binary, of_ternary, of_jump, of_pop, of_compare, of_bitfield, of_shift, of_scan};

@@ -1,6 +1,5 @@
-// The numbers of an instruction: its parts by layout (`build`), and the comparison of the numbers of two.
+// The numbers of an instruction: its parts by layout.
 #![tactic(auto)]
 
 pub mod build;
-pub mod compare;
 mod operand;

@@ -1,4 +1,4 @@
-// An operand as a slot: its kind, its hint and its number.
+// An operand as a slot: its kind, its hint and its number. Kinds and hints are the numbers of docs/byte-form.md, which callers in C read.
 ghost use Rattle.std.specs.Prelude.{◌≡◌};
 ghost use Rattle.isa.specs.Parts.{hint_number, slot, destination_slot, source_slot, dst_slot, src_slot, hint_slot};
 
@@ -45,6 +45,7 @@ fn source_slot(x: Source, h: u8) -> Slot
     }
 }
 
+// Beside src_slot: a destination and a source are two types with cases of their own, so one function would take what makes the slot.
 pub fn dst_slot(d: Dst) -> Slot
     ensures { result ≡ dst_slot d }
 {

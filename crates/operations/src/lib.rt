@@ -3,6 +3,8 @@
 
 pub mod action;
 
+use isa::parts::Truth;
+
 // The flags of iadd and imadd and the bit sizes of their operands; iadd has no C.
 #[derive(Clone, Copy)]
 pub struct Sum {
@@ -26,14 +28,6 @@ pub struct Test {
     pub asize: u8,
     pub bsize: u8,
     pub n: u8,
-}
-
-#[derive(Clone, Copy)]
-pub struct Truth {
-    pub tt0: u8,
-    pub tt1: u8,
-    pub tt2: u8,
-    pub tt3: u8,
 }
 
 #[derive(Clone, Copy)]

@@ -10,8 +10,9 @@ use numbers::build::{
     no_signs, no_truth, of_binary, of_bitfield, of_compare, of_dst, of_jump, of_pop, of_scan,
     of_shift, of_ternary,
 };
-use numbers::compare::same_parts;
 
+// Inlined, so that an instruction that was just read is not made before its parts are.
+#[inline(always)]
 pub fn parts_of(i: Instruction) -> Parts
     ensures { result ≡ parts_of i }
 {
@@ -100,5 +101,5 @@ pub fn place(i: Instruction) -> usize
 pub fn same(i: Instruction, j: Instruction) -> bool
     ensures { result ≡ same i j }
 {
-    same_parts(parts_of(i), parts_of(j))
+    parts_of(i) == parts_of(j)
 }

@@ -2,114 +2,83 @@
 #![tactic(auto)]
 
 ghost use Rattle.std.specs.Prelude.{◌≡◌, ◌≤◌, length, drop};
-ghost use Rattle.isa.specs.Decode.{decoded_of, decode_of};
+ghost use Rattle.isa.specs.Decode.{decode_of};
 ghost use Rattle.isa.specs.Refusal.{refusal};
-ghost use Rattle.plan.specs.Plan.{Planned, NarrowReading, plan_with, refused_with};
+ghost use Rattle.plan.specs.Plan.{Says, Planned, task_with, refused_with, discards_by};
 
 use finding::matching;
-use isa::answer::{Find, Reading, Refusal};
-use isa::operand::Destination;
-use machine::input::Input;
-use operations::Operation;
-use operations::action::{Action, Kind};
+use isa::answer::Refusal;
+use operations::action::Action;
 
-// Whether there is an instruction that acts, or the refusal.
+// What a step has to do: the length of its instruction, how many registers and special registers there have to be for it, whether it
+// discards, and its action.
 #[derive(Clone, Copy)]
-pub enum Verdict {
-    Acts,
-    Refused(Refusal),
-}
-
-// The address, the length of the instruction there, how many registers and special registers there have to be for it, whether it discards,
-// and its action. Of a
-// plan that is refused, only the address and the refusal say something.
-#[derive(Clone, Copy)]
-pub struct Plan {
-    pub address: usize,
+pub struct Task {
     pub bytes: usize,
     pub registers: u16,
     pub specials: u16,
     pub discards: bool,
-    pub verdict: Verdict,
     pub action: Action,
 }
 
-fn refused(r: Refusal, address: usize) -> Plan
-    ensures { result ≡ refused_with r address }
-{
-    let none = Input::Nothing;
-    let action = Action {
-        kind: Kind::JumpsIfAny,
-        d: Destination::Half(0),
-        a: none,
-        b: none,
-        c: none,
-        operation: Operation::Mov(0),
-        off: 0,
-    };
-    Plan {
-        address,
-        bytes: 0,
-        registers: 0,
-        specials: 0,
-        discards: false,
-        verdict: Verdict::Refused(r),
-        action,
+// The task at an address, or why there is none.
+#[derive(Clone, Copy)]
+pub struct Plan {
+    pub address: usize,
+    pub task: Result<Task, Refusal>,
+}
+
+impl Plan {
+    // A step that is refused discards nothing.
+    pub fn discards(&self) -> bool
+        ensures { result ≡ discards_by self.now.task }
+    {
+        match &self.task {
+            Ok(task) => task.discards,
+            Err(_) => false,
+        }
     }
 }
 
-fn acting(action: Action, address: usize, bytes: usize) -> Plan
-    ensures { result ≡ plan_with action address bytes }
+fn task_of(action: Action, bytes: usize) -> Task
+    ensures { result ≡ task_with action bytes }
 {
-    let registers = going::registers_reach(action);
-    let specials = going::specials_reach(action);
-    let discards = going::discards(action);
-    Plan {
-        address,
+    Task {
         bytes,
-        registers,
-        specials,
-        discards,
-        verdict: Verdict::Acts,
+        registers: going::registers_reach(action),
+        specials: going::specials_reach(action),
+        discards: going::discards(action),
         action,
     }
 }
 
-fn planned(r: Reading, address: usize, bytes: usize) -> Plan
-    requires { NarrowReading r }
-    ensures { Planned (decoded_of r bytes) address result }
-{
-    match r {
-        Reading::Is(i) => acting(action::action_of(i), address, bytes),
-        Reading::NoMeaning => refused(Refusal::NoMeaning, address),
-    }
-}
-
-// The plan of the instruction at the start of some bytes. They are found and read here, and not by decode: an instruction that need not be
+// The task of the instruction at the start of some bytes. They are found and read here, and not by decode: an instruction that need not be
 // put into an answer is copied once less.
-fn of_first(code: &[u8], address: usize) -> Plan
-    ensures { Planned (decode_of code.now) address result }
+fn first_task(code: &[u8]) -> Result<Task, Refusal>
+    ensures { Says (decode_of code.now) result }
 {
     let w = bits::word(code);
-    match matching::find_first(w, finding::held(code.len())) {
-        Find::At(place, n) => {
-            let r = reading::read(place, w & finding::ones_of(n));
-            planned(r, address, n)
-        }
-        Find::Refused(r) => refused(r, address),
-    }
+    let (place, bytes) = matching::find_first(w, finding::held(code.len()))?;
+    let i = reading::read(place, w & finding::ones_of(bytes)).ok_or(Refusal::NoMeaning)?;
+    Ok(task_of(action::action_of(i), bytes))
 }
 
 pub fn at(code: &[u8], address: usize) -> Plan
     requires { address ≤ length code.now }
     ensures { Planned (decode_of (drop address code.now)) address result }
 {
-    of_first(&code[address..], address)
+    Plan {
+        address,
+        task: first_task(&code[address..]),
+    }
 }
 
 // The plan of the end of the code, where nothing is lent to decode.
 pub fn past_end(code: &[u8]) -> Plan
     ensures { result ≡ refused_with (refusal 2) (length code.now) }
 {
-    refused(Refusal::CutShort, code.len())
+    Plan {
+        address: code.len(),
+        task: Err(Refusal::CutShort),
+    }
 }

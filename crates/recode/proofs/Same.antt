@@ -1,4 +1,5 @@
 -- What is decoded and encoded again is what it was.
+use Rattle.std.proofs.Common.{Ok, Err}
 use mathlib.Core.Path.{◌≡◌, refl, ap, ap₂, ◌∙◌}
 use mathlib.Core.List.{List, [], ◌∷◌, ◌++◌}
 use Prim.Native.Nat.{ℕ, zero, suc, ◌≤◌}
@@ -7,7 +8,7 @@ use lib.Seq.{take_at}
 use borrow.Author.Tests.{le-leb}
 use Rattle.bits.proofs.Laws.{Bytes, bytes_drop}
 use Rattle.isa.specs.Decode.{decode_of}
-use Rattle.isa.specs.declared.answer.Decoded.{Decoded}
+use Rattle.isa.specs.Answer.{Decoded}
 use Rattle.encode.specs.Encode.{bytes_for}
 use Rattle.roundtrip.proofs.Back.{bytes_back}
 use Rattle.recode.specs.Recode.{on_decoded, again_from, recoded_of, left_of}
@@ -20,9 +21,9 @@ again_same (suc k) (b ∷ s) h = go (decode_of (b ∷ s)) refl (λ n. again_same
   where
     go : (d : Decoded) → decode_of (b ∷ s) ≡ d → ((n : ℕ) → again_from k (drop n (b ∷ s)) ≡ drop n (b ∷ s))
         → on_decoded d (λ i n. bytes_for i ++ again_from k (drop n (b ∷ s))) (b ∷ s) ≡ b ∷ s
-    go (Decoded.Found i n) e ih =
+    go (Ok (i, n)) e ih =
         ap₂ (λ (x y : List ℕ). x ++ y) (bytes_back (b ∷ s) h i n e) (ih n) ∙ take-append-drop n (b ∷ s)
-    go (Decoded.Refused r) e ih = refl
+    go (Err r) e ih = refl
 
 pub recoded_same : (code : List ℕ) → Bytes code → recoded_of code ≡ code
 unfolding recoded_of

@@ -1,4 +1,5 @@
 -- The steps of the loop. It writes the code up to an address, and from there on leaves what stood in the buffer.
+use Rattle.std.proofs.Common.{Ok, Err}
 use mathlib.Core.Path.{◌≡◌, sym, ap, ap₂, ◌∙◌}
 use mathlib.Core.List.{List, ◌++◌, append_assoc, append-nil}
 use Prim.Native.Nat.{ℕ, ◌+◌, ◌-◌, ◌≤◌, ◌<◌}
@@ -8,11 +9,11 @@ use lib.Seq.{sets, sets-eq, length-take-le, take-length, take_all, take_at, take
 use borrow.Author.Tests.{le-leb}
 use Rattle.bits.proofs.Laws.{Bytes, bytes_drop}
 use Rattle.isa.specs.Decode.{decode_of}
-use Rattle.isa.specs.declared.answer.Decoded.{Decoded}
-use Rattle.isa.specs.declared.answer.Encoded.{Encoded}
+use Rattle.isa.specs.Answer.{Encoded}
+use Rattle.isa.specs.declared.answer.Refusal.{Refusal}
 use Rattle.isa.specs.declared.instruction.Instruction.{Instruction}
 use Rattle.isa.proofs.Found.{found-length}
-use Rattle.encode.specs.Encode.{encoding_left}
+use Rattle.encode.specs.Encode.{encoded_of, encoding_left}
 use Rattle.roundtrip.proofs.Round.{decode_encode}
 use Rattle.recode.specs.Recode.{answer_of, left_of}
 use Rattle.recode.proofs.Same.{recoded_same}
@@ -24,6 +25,7 @@ done code old at = take at code ++ drop at old
 -- an instruction of n bytes, encoded into the part of the buffer that starts at the address, leaves the code n bytes further
 pub record Turn (code old out : List ℕ) (at : ℕ) (i : Instruction) (n : ℕ) : Type 0 where
   pub within : (0 < n) × (at + n ≤ length code)
+  pub taken : encoded_of i (take (length out - at) (drop at out)) ≡ Ok n
   pub encoded : (part : List ℕ) → part ≡ encoding_left i (take (length out - at) (drop at out))
       → take at out ++ (part ++ drop (length out - at) (drop at out)) ≡ done code old (at + n)
 
@@ -65,21 +67,23 @@ module _ (code old out : List ℕ) (at : ℕ) (e : out ≡ done code old at) (h 
       ∙ ap (λ (x : List ℕ). x ++ drop (length code) old) (take-append-drop at code ∙ sym (take-length code))
 
   -- an instruction is decoded from the part of the code that starts at the address
-  pub turn : Bytes code → (i : Instruction) (n : ℕ) → decode_of (take (length code - at) (drop at code)) ≡ Decoded.Found i n
+  pub turn : Bytes code → (i : Instruction) (n : ℕ) → decode_of (take (length code - at) (drop at code)) ≡ Ok (i, n)
       → Turn code old out at i n
   turn hs i n d =
       let c = length-drop at code in
       let o = length-drop at out in
       let l = same_size in
-      let t : decode_of (drop at code) ≡ Decoded.Found i n =
+      let t : decode_of (drop at code) ≡ Ok (i, n) =
       ap decode_of (sym (take_all (length code - at) (drop at code) (omega arith))) ∙ d in
       let w : (0 < n) × (at + n ≤ length code) = omega (arith, found-length (drop at code) i n t) in
       let all : length (drop at out) ≤ length out - at = omega arith in
+      let again = decode_encode (drop at code) (bytes_drop at code hs) i n t (drop at out) (omega arith) in
       let q : encoding_left i (drop at out) ≡ take n (drop at code) ++ drop (at + n) old =
-      (decode_encode (drop at code) (bytes_drop at code hs) i n t (drop at out) (omega arith)).1
+      again.1
       ∙ ap (λ (x : List ℕ). take n (drop at code) ++ x) (ap (drop n) kept ∙ drop-drop n at old) in
       record {
         within = w;
+        taken = ap (encoded_of i) (take_all (length out - at) (drop at out) all) ∙ again.0;
         encoded =
             λ part p.
             rw (
@@ -94,9 +98,13 @@ module _ (code old out : List ℕ) (at : ℕ) (e : out ≡ done code old at) (h 
             (sym (append_assoc (take at code) (take n (drop at code)) (drop (at + n) old)));
       }
 
+-- no call both answers a number and is refused
+pub not_both : (a : Encoded) (n : ℕ) (r : Refusal) → a ≡ Ok n → a ≡ Err r → ⊥
+not_both a n r e f = let z : ◌≡◌ {A = ℕ} 0 1 = cc in absurd (omega arith)
+
 -- all is written: what the call answers and leaves
 pub finished : (code old out : List ℕ) (at : ℕ) → Bytes code → out ≡ done code old at → at ≡ length code → length code ≤ length old
-    → (Encoded.Wrote at ≡ answer_of (length code) (length old)) × (out ≡ left_of code old)
+    → (Ok at ≡ answer_of (length code) (length old)) × (out ≡ left_of code old)
 finished code old out at hs e h g =
     let t = le-leb (length code) (length old) g in
     let f : out ≡ code ++ drop (length code) old =

@@ -8,7 +8,6 @@ ghost use Rattle.listing.specs.Listing.{listing_of};
 ghost use Rattle.recode.specs.Recode.{recoded_of};
 ghost use Rattle.recoder.specs.Program.{ListsAgain};
 
-use listing::Listed;
 use std::io;
 use std::io::{Read, Write};
 
@@ -19,12 +18,8 @@ fn list_again(code: &[u8], out: &mut [u8], text: &mut [u8]) -> usize
     ensures text_after { take result text.new ≡ listing_of (recoded_of code.now) }
     ensures unchanged { take result text.new ≡ listing_of code.now }
 {
-    recode::recode(code, out);
-    let n = code.len();
-    match listing::list(&out[..n], text) {
-        Listed::Wrote(k) => k,
-        Listed::Refused(_) => 0,
-    }
+    let n = recode::recode(code, out).unwrap();
+    listing::list(&out[..n], text).unwrap()
 }
 
 // With one byte more than the most that are listed, or after a read that failed, the listing is that of a kernel too long.

@@ -8,9 +8,8 @@ ghost use Rattle.reedtassel_compare.specs.Compare.{Compares};
 pub extern "C" fn reedtassel_compare(first: &[u8], second: &[u8], line: &mut [u8]) -> i32
     ensures { Compares first.now second.now line.old result line.new }
 {
-    let n = compare::compare_line(first, second, line);
-    if n == 0 {
-        return -1;
+    match compare::compare_line(first, second, line) {
+        Some(n) => n as i32,
+        None => -1,
     }
-    n as i32
 }

@@ -1,4 +1,5 @@
 -- What decodes is the encoding of what it decodes to.
+use Rattle.std.proofs.Common.{Some, None, Ok}
 use mathlib.Core.Path.{◌≡◌, refl, sym, ap, ap₂, ◌∙◌, subst}
 use mathlib.Core.Bool.{Bool, true, false, ◌&&◌}
 use mathlib.Core.List.{List, [], ◌∷◌}
@@ -22,10 +23,10 @@ use Rattle.isa.specs.Rows.{rows}
 use Rattle.isa.specs.Find.{Form, forms, matches, find_of}
 use Rattle.isa.specs.Decode.{row_at, no_diagram, read_at, decoded_of, read_found, decode_of}
 use Rattle.isa.specs.Parts.{place_of, length_by, length_for}
-use Rattle.isa.specs.declared.answer.Find.{Find}
-use Rattle.isa.specs.declared.answer.Reading.{Reading}
-use Rattle.isa.specs.declared.answer.Decoded.{Decoded}
+use Rattle.isa.specs.Answer.{Find}
+use Rattle.isa.specs.Answer.{Reading}
 use Rattle.isa.specs.declared.instruction.Instruction.{Instruction}
+use Rattle.isa.proofs.Pairs.{ok_pair_parts}
 use Rattle.isa.proofs.Found.{Matched, found_form, only_form, found-length}
 use Rattle.isa.proofs.Placed.{length-rows, place_below, found-place}
 use Rattle.isa.proofs.WasRead.{Reads}
@@ -107,24 +108,24 @@ told_at (r ∷ rs) a (suc j) h = told_at rs a.1 j (le_of_suc-le-suc h)
 
 -- ---- what was decoded, was found and read
 
-is_read : (x : Reading) (n m : ℕ) (i : Instruction) → decoded_of x n ≡ Decoded.Found i m → x ≡ Reading.Is i
-is_read (Reading.Is j) n m i e = let z : j ≡ i = cc in ap Reading.Is z
-is_read Reading.NoMeaning n m i e = let z : ◌≡◌ {A = ℕ} 0 1 = cc in absurd (omega arith)
+is_read : (x : Reading) (n m : ℕ) (i : Instruction) → decoded_of x n ≡ Ok (i, m) → x ≡ Some i
+is_read (Some j) n m i e = ap Some (ok_pair_parts j i n m e).0
+is_read None n m i e = let z : ◌≡◌ {A = ℕ} 0 1 = cc in absurd (omega arith)
 
-module _ (s : List ℕ) (hs : Bytes s) (i : Instruction) (n : ℕ) (e : decode_of s ≡ Decoded.Found i n) where
+module _ (s : List ℕ) (hs : Bytes s) (i : Instruction) (n : ℕ) (e : decode_of s ≡ Ok (i, n)) where
   abbrev p : ℕ
   p = place_of i
 
   abbrev w : ℕ
   w = le (take n s)
 
-  found : find_of s ≡ Find.At p n
+  found : find_of s ≡ Ok (p, n)
   found = found-place s i n e
 
-  reads : read_at p w ≡ Reading.Is i
+  reads : read_at p w ≡ Some i
   unfolding decode_of
   reads =
-      let d : read_found (Find.At p n) s ≡ Decoded.Found i n = ap (λ (x : Find). read_found x s) (sym found) ∙ e in
+      let d : read_found (Ok (p, n)) s ≡ Ok (i, n) = ap (λ (x : Find). read_found x s) (sym found) ∙ e in
       is_read (read_at p w) n n i d
 
   of_form : (f : Form) × Matched s f × (f.place ≡ p) × (f.bytes ≡ n)
@@ -189,7 +190,7 @@ module _ (s : List ℕ) (hs : Bytes s) (i : Instruction) (n : ℕ) (e : decode_o
       ∙ bytes_le (take n s) (bytes_take n s hs)
 
   -- and they decode, alone, to the instruction
-  pub first_decodes : decode_of (take n s) ≡ Decoded.Found i n
+  pub first_decodes : decode_of (take n s) ≡ Ok (i, n)
   unfolding decode_of
   first_decodes =
       let t : take n (take n s) ≡ take n s = take_all n (take n s) (let h = length_first in omega arith) in
@@ -198,6 +199,6 @@ module _ (s : List ℕ) (hs : Bytes s) (i : Instruction) (n : ℕ) (e : decode_o
       rw (b, length_first, le-leb n n (omega arith), t, eq-eqb _ _ agreed) in
       let q = only_form (take n s) (bytes_take n s hs) f
       (record { index = of_form.1.index; within = of_form.1.within; is = of_form.1.is; agrees = m }) in
-      ap (λ (x : Find). read_found x (take n s)) (q ∙ ap₂ (λ (x y : ℕ). Find.At x y) of_form.2 b)
+      ap (λ (x : Find). read_found x (take n s)) (q ∙ ap₂ (λ (x y : ℕ). Ok (x, y)) of_form.2 b)
       ∙ ap (λ (x : List ℕ). decoded_of (read_at p (le x)) n) t
       ∙ ap (λ (x : Reading). decoded_of x n) reads

@@ -1,4 +1,5 @@
 -- An operand that was read has the number and the flags that it was read from.
+use Rattle.std.proofs.Common.{Option, Some, None}
 use mathlib.Core.Path.{◌≡◌, refl, subst}
 use mathlib.Core.Bool.{Bool, true, false, cond}
 use Prim.Native.Nat.{ℕ, ◌+◌, ◌*◌, ◌/◌, ◌%◌, ◌^◌, ◌≤◌, ◌<◌}
@@ -11,8 +12,6 @@ use Rattle.isa.specs.Operand.{cache_hint, source_hint, destination_of, uniform_o
 use Rattle.isa.specs.declared.operand.Hint.{Hint}
 use Rattle.isa.specs.declared.operand.Dst.{Dst}
 use Rattle.isa.specs.declared.operand.Src.{Src}
-use Rattle.isa.specs.declared.operand.ReadDst.{ReadDst}
-use Rattle.isa.specs.declared.operand.ReadSrc.{ReadSrc}
 use Rattle.encoding.specs.Flags.{cache_bit, hint_bits, dst_number, dst_flags, src_number, src_flags}
 
 ruleset tests = (arith, eqb-true, eqb-false)
@@ -36,9 +35,9 @@ hint_bits_lem h l u = go (eqb h 2) refl (eqb h 3) refl
 
 -- ---- destinations
 
-abbrev DstIs : ℕ → ℕ → ReadDst → Type 0
-DstIs v t (ReadDst.Is d) = (dst_number d.destination ≡ v) × (dst_flags d.destination + cache_bit d.hint ≡ t)
-DstIs v t ReadDst.NoMeaning = Unit {0}
+abbrev DstIs : ℕ → ℕ → Option Dst → Type 0
+DstIs v t (Some d) = (dst_number d.destination ≡ v) × (dst_flags d.destination + cache_bit d.hint ≡ t)
+DstIs v t None = Unit {0}
 
 dst-is : (wide : Bool) (v t : ℕ) → t < 4 → DstIs v t (destination_of wide v t)
 unfolding destination_of
@@ -53,15 +52,15 @@ dst-is wide v t h = go (eqb (t / 2) 0) refl (eqb (v % 2) 0) refl wide
     go false e false f true = rw (e, f) (omega tests, rw c (omega tests))
     go false e false f false = rw (e, f) tt
 
-pub dst-back : (wide : Bool) (v t : ℕ) (d : Dst) → t < 4 → destination_of wide v t ≡ ReadDst.Is d
+pub dst-back : (wide : Bool) (v t : ℕ) (d : Dst) → t < 4 → destination_of wide v t ≡ Some d
     → (dst_number d.destination ≡ v) × (dst_flags d.destination + cache_bit d.hint ≡ t)
 dst-back wide v t d h e = subst (DstIs v t) e (dst-is wide v t h)
 
 -- ---- sources
 
-abbrev SrcIs : ℕ → ℕ → ReadSrc → Type 0
-SrcIs v t (ReadSrc.Is s) = (src_number s.source ≡ v) × (src_flags s.source s.hint ≡ t)
-SrcIs v t ReadSrc.NoMeaning = Unit {0}
+abbrev SrcIs : ℕ → ℕ → Option Src → Type 0
+SrcIs v t (Some s) = (src_number s.source ≡ v) × (src_flags s.source s.hint ≡ t)
+SrcIs v t None = Unit {0}
 
 uniform_is : (wide : Bool) (v t : ℕ) → v < 256 → t / 4 ≡ 1 → SrcIs v t (uniform_of wide (v + 256 * (t % 2)) (t / 2 % 2))
 unfolding uniform_of
@@ -97,7 +96,7 @@ src-is wide v t hv h =
     go false p false q false r false s false x true = rw (p, q, r, s, x) (omega tests, rw (bits q) (omega tests))
     go false p false q false r false s false x false = rw (p, q, r, s, x) tt
 
-pub src-back : (wide : Bool) (v t : ℕ) (s : Src) → v < 256 → t < 16 → source_of wide v t ≡ ReadSrc.Is s
+pub src-back : (wide : Bool) (v t : ℕ) (s : Src) → v < 256 → t < 16 → source_of wide v t ≡ Some s
     → (src_number s.source ≡ v) × (src_flags s.source s.hint ≡ t)
 src-back wide v t s hv h e = subst (SrcIs v t) e (src-is wide v t hv h)
 
@@ -122,7 +121,7 @@ module _ (w : ℕ) where
     pub flags : dst_flags d.destination + cache_bit d.hint ≡ field_of w t 2
 
   pub dst-told : (wide : Bool) (lo hi t : ℕ) (d : Dst)
-      → destination_of wide (field_of w hi 2 * 2 ^ 6 + field_of w lo 6) (field_of w t 2) ≡ ReadDst.Is d → DstTold lo hi t d
+      → destination_of wide (field_of w hi 2 * 2 ^ 6 + field_of w lo 6) (field_of w t 2) ≡ Some d → DstTold lo hi t d
   dst-told wide lo hi t d e =
       let q = dst-back wide (field_of w hi 2 * 2 ^ 6 + field_of w lo 6) (field_of w t 2) d (mod-lt (w / 2 ^ t) (lit< tt)) e in
       let c = cut_joined lo hi (dst_number d.destination) q.0 in
@@ -134,7 +133,7 @@ module _ (w : ℕ) where
     pub flags : src_flags s.source s.hint ≡ field_of w t 4
 
   pub src-told : (wide : Bool) (lo hi t : ℕ) (s : Src)
-      → source_of wide (field_of w hi 2 * 2 ^ 6 + field_of w lo 6) (field_of w t 4) ≡ ReadSrc.Is s → SrcTold lo hi t s
+      → source_of wide (field_of w hi 2 * 2 ^ 6 + field_of w lo 6) (field_of w t 4) ≡ Some s → SrcTold lo hi t s
   src-told wide lo hi t s e =
       let q = src-back wide (field_of w hi 2 * 2 ^ 6 + field_of w lo 6) (field_of w t 4) s (joined_lt lo hi) (mod-lt (w / 2 ^ t) (lit< tt)) e in
       let c = cut_joined lo hi (src_number s.source) q.0 in

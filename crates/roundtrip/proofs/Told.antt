@@ -1,5 +1,6 @@
 -- An instruction that was read by a diagram has the fields and the "?" bits of the word, and its operands stand where they can be held.
 -- One proof for each layout, in document order.
+use Rattle.std.proofs.Common.{Some}
 use mathlib.Core.Path.{◌≡◌, refl, sym, ap, ◌∙◌, subst}
 use mathlib.Core.Bool.{Bool, true, false}
 use mathlib.Core.List.{List, [], ◌∷◌}
@@ -18,15 +19,12 @@ use Rattle.isa.specs.Rows.{rows}
 use Rattle.isa.specs.Decode.{row_at}
 use Rattle.isa.specs.declared.operand.Dst.{Dst}
 use Rattle.isa.specs.declared.operand.Src.{Src}
-use Rattle.isa.specs.declared.operand.ReadDst.{ReadDst}
-use Rattle.isa.specs.declared.operand.ReadSrc.{ReadSrc}
 use Rattle.isa.specs.declared.instruction.Bitfield.{Bitfield}
 use Rattle.isa.specs.declared.instruction.Shift.{Shift}
 use Rattle.isa.specs.declared.instruction.Scan.{Scan}
 use Rattle.isa.specs.declared.instruction.Compare.{Compare}
 use Rattle.isa.specs.declared.instruction.Instruction.{Instruction}
 use Rattle.isa.proofs.WasRead.{Reads, is_reads, on_dst, on_unary, on_binary, on_ternary, on_compared, on_condition, of-unary, of-binary, of-ternary, of-compared}
-use Rattle.isa.specs.declared.answer.Reading.{Reading}
 use Rattle.isa.specs.Parts.{parts_of, kept_of}
 use Rattle.encoding.specs.Write.{Named, ◌is◌, of_unary, of_binary, of_bitfield, of_compare, fields_for}
 use Rattle.roundtrip.specs.Reasons.{Held, HoldsDst, HoldsSrc, HoldsUnary, HoldsBinary, HoldsTernary, HoldsCompare}
@@ -51,7 +49,7 @@ module _ (w : ℕ) where
   made : {A : Type 0} (r : Diagram) (make : A → Instruction) (fields : A → List Named) (kept : A → ℕ) (Holds : A → Type 0)
       → Made make fields kept Holds → (x : A) → Agree w r.fields (fields x) → kept x ≡ bit_and w (mask r.unknowns)
       → 0 ≡ (field_in r.fields w "L").value → Holds x
-      → Reads (Told r w) (Reading.Is (make x))
+      → Reads (Told r w) (Some (make x))
   made r make fields kept Holds m x a k l h =
       is_reads (Told r w) (make x)
       (subst (Agree w r.fields) (sym (m.named x)) a, m.keeps x ∙ k, m.unshortened x ∙ l, m.holds x h)
@@ -60,11 +58,11 @@ module _ (w : ℕ) where
   field_lt at n h = mod-lt (w / 2 ^ at) h
 
   held-dst : (wide : Bool) (lo hi t : ℕ) (d : Dst)
-      → destination_of wide (field_of w hi 2 * 2 ^ 6 + field_of w lo 6) (field_of w t 2) ≡ ReadDst.Is d → HoldsDst wide d
+      → destination_of wide (field_of w hi 2 * 2 ^ 6 + field_of w lo 6) (field_of w t 2) ≡ Some d → HoldsDst wide d
   held-dst wide lo hi t d e = (_, _, joined_lt w lo hi, field_lt t 2 (lit< tt), e)
 
   held-src : (wide : Bool) (lo hi t : ℕ) (s : Src)
-      → source_of wide (field_of w hi 2 * 2 ^ 6 + field_of w lo 6) (field_of w t 4) ≡ ReadSrc.Is s → HoldsSrc wide s
+      → source_of wide (field_of w hi 2 * 2 ^ 6 + field_of w lo 6) (field_of w t 4) ≡ Some s → HoldsSrc wide s
   held-src wide lo hi t s e = (_, _, joined_lt w lo hi, field_lt t 4 (lit< tt), e)
 
   -- ---- Move Instructions
@@ -227,7 +225,7 @@ module _ (w : ℕ) where
   -- ---- Flow Control Instructions
 
   jump-told : (make : ℕ → Instruction) → Made make (λ x. ("off" is x) ∷ []) (λ x. 0) (λ x. Unit {0})
-      → Reads (Told (row_at 16) w) (Reading.Is (make (field_of w 16 32)))
+      → Reads (Told (row_at 16) w) (Some (make (field_of w 16 32)))
   unfolding rows
   jump-told make m =
       made (row_at 16) make (λ x. ("off" is x) ∷ []) (λ x. 0) (λ x. Unit {0}) m (field_of w 16 32) (refl & tt) (sym (and_zero_r w)) refl tt

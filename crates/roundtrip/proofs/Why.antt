@@ -1,4 +1,5 @@
 -- The reasons of refusal 8, and no others: what is accepted has none of them, and what has none of them is accepted.
+use Rattle.std.proofs.Common.{Some, Ok, Err}
 use mathlib.Core.Path.{◌≡◌, refl, sym, ap, ◌∙◌, subst}
 use mathlib.Core.Bool.{Bool, true, false}
 use mathlib.Core.List.{List, [], ◌∷◌}
@@ -22,10 +23,9 @@ use Rattle.isa.specs.Decode.{no_diagram, row_at, read_at, decoded_of, read_found
 use Rattle.isa.specs.Parts.{parts_of, place_of, kept_of}
 use Rattle.isa.specs.declared.operand.Dst.{Dst}
 use Rattle.isa.specs.declared.answer.Refusal.{Refusal}
-use Rattle.isa.specs.declared.answer.Find.{Find}
-use Rattle.isa.specs.declared.answer.Reading.{Reading}
-use Rattle.isa.specs.declared.answer.Decoded.{Decoded}
-use Rattle.isa.specs.declared.answer.Encoded.{Encoded}
+use Rattle.isa.specs.Answer.{Find}
+use Rattle.isa.specs.Answer.{Reading}
+use Rattle.isa.specs.Answer.{Encoded}
 use Rattle.isa.specs.declared.instruction.Instruction.{Instruction}
 use Rattle.isa.proofs.Placed.{length-rows, place_below, found-place}
 use Rattle.encoding.specs.Write.{Named, number_in, put, fields_for, word_for}
@@ -118,7 +118,7 @@ module _ (d : Dst) (imm l kept : ℕ) (e : Encodable (Instruction.Mov32 d imm l 
       (has_settled (row_at 1) t ns kept e.fields e.kept mov32_settled, has_kept (row_at 1) t ns kept e.fields e.kept)
 
 -- its word is read as the instruction
-reads : (i : Instruction) → Encodable i → read_at (place_of i) (word_for i) ≡ Reading.Is i
+reads : (i : Instruction) → Encodable i → read_at (place_of i) (word_for i) ≡ Some i
 unfolding rows fields_for Held parts_of
 reads (Instruction.Mov16 d imm l kept) e =
     let i = Instruction.Mov16 d imm l kept in
@@ -170,7 +170,7 @@ encodable_accepted i e = decoded-accepted (bytes_for i) (bytes-bytes_of (length_
         let l : word_for i < 2 ^ (8 * n) = e.absent in
         ap le (take-bytes n n (word_for i) (le_refl n)) ∙ le_bytes n (word_for i) (rw (← pow_bytes n) l)
 
-    decodes : decode_of (bytes_for i) ≡ Decoded.Found i n
+    decodes : decode_of (bytes_for i) ≡ Ok (i, n)
     decodes =
         ap (λ (x : Find). read_found x (bytes_for i)) e.finds
         ∙ ap (λ (w : ℕ). decoded_of (read_at (place_of i) w) n) again
@@ -184,13 +184,13 @@ accepts_encodable i = (accepted_encodable i, encodable_accepted i)
 
 -- whatever the buffer is, the answer is 8 and it is left as it was
 abbrev pub Refused8 : Instruction → Type 0
-Refused8 i = (out : List ℕ) → (encoded_of i out ≡ Encoded.Refused (refusal 8)) × (encoding_left i out ≡ out)
+Refused8 i = (out : List ℕ) → (encoded_of i out ≡ Err (refusal 8)) × (encoding_left i out ≡ out)
 
 pub refused_for : (i : Instruction) → (Encodable i → ⊥) → Refused8 i
 unfolding encoded_of encoding_left
 refused_for i h out = go (accepts i) refl
   where
-    go : (b : Bool) → accepts i ≡ b → (encoded_of i out ≡ Encoded.Refused (refusal 8)) × (encoding_left i out ≡ out)
+    go : (b : Bool) → accepts i ≡ b → (encoded_of i out ≡ Err (refusal 8)) × (encoding_left i out ≡ out)
     go true e = absurd (h (accepted_encodable i e))
     go false e = (rw e, rw e)
 
@@ -212,11 +212,11 @@ pub found-other : (i : Instruction) → (Finds i → ⊥) → Refused8 i
 found-other i h = refused_for i (λ e. h e.finds)
 
 abbrev Numbered : Encoded → Type 0
-Numbered (Encoded.Wrote n) = Unit {0}
-Numbered (Encoded.Refused r) = (8 ≤ number_of r) × (number_of r ≤ 9)
+Numbered (Ok n) = Unit {0}
+Numbered (Err r) = (8 ≤ number_of r) × (number_of r ≤ 9)
 
 -- refused, the encoder answers 8 or 9, and nothing else
-pub refused-with : (i : Instruction) (out : List ℕ) (r : Refusal) → encoded_of i out ≡ Encoded.Refused r → (8 ≤ number_of r) × (number_of r ≤ 9)
+pub refused-with : (i : Instruction) (out : List ℕ) (r : Refusal) → encoded_of i out ≡ Err r → (8 ≤ number_of r) × (number_of r ≤ 9)
 unfolding encoded_of
 refused-with i out r e = subst Numbered e (go (accepts i) (leb (length_of i) (length out)) refl)
   where

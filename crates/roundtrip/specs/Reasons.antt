@@ -1,5 +1,5 @@
 -- Why an instruction has no encoding: the reasons of refusal 8 in the table "Refusal numbers" of the statement of what to build.
-use Rattle.std.specs.Prelude.{◌≡◌, Bool, true, false, List, [], ◌∷◌, ℕ, ◌*◌, ◌/◌, ◌^◌, ◌<◌}
+use Rattle.std.specs.Prelude.{◌≡◌, Bool, true, false, List, [], ◌∷◌, ℕ, ◌*◌, ◌/◌, ◌^◌, ◌<◌, Some, Ok}
 use Rattle.std.specs.Int.Bits.{bit_and}
 use Rattle.isa.specs.Operand.{cache_hint, destination_of, source_of, means_condition}
 use Rattle.isa.specs.Diagram.{Field, width_of, mask}
@@ -12,11 +12,8 @@ use Rattle.isa.specs.declared.operand.Src.{Src}
 use Rattle.isa.specs.declared.operand.Unary.{Unary}
 use Rattle.isa.specs.declared.operand.Binary.{Binary}
 use Rattle.isa.specs.declared.operand.Ternary.{Ternary}
-use Rattle.isa.specs.declared.operand.ReadDst.{ReadDst}
-use Rattle.isa.specs.declared.operand.ReadSrc.{ReadSrc}
 use Rattle.isa.specs.declared.instruction.Compare.{Compare}
 use Rattle.isa.specs.declared.instruction.Instruction.{Instruction}
-use Rattle.isa.specs.declared.answer.Find.{Find}
 use Rattle.encoding.specs.Write.{Named, fields_for, number_in, word_for}
 use Rattle.encode.specs.Encode.{length_of, bytes_for}
 
@@ -24,14 +21,14 @@ use Rattle.encode.specs.Encode.{length_of, bytes_for}
 
 -- a place holds what some number and flags there say
 abbrev pub HoldsDst : Bool → Dst → Type 0
-HoldsDst wide d = (v : ℕ) × (t : ℕ) × (v < 256) × (t < 4) × (destination_of wide v t ≡ ReadDst.Is d)
+HoldsDst wide d = (v : ℕ) × (t : ℕ) × (v < 256) × (t < 4) × (destination_of wide v t ≡ Some d)
 
 -- of a mov the upper bit of Dt is fixed
 abbrev pub HoldsMov : ℕ → Dst → Type 0
-HoldsMov upper d = (v : ℕ) × (t : ℕ) × (v < 256) × (t < 4) × (destination_of false v t ≡ ReadDst.Is d) × (t / 2 ≡ upper)
+HoldsMov upper d = (v : ℕ) × (t : ℕ) × (v < 256) × (t < 4) × (destination_of false v t ≡ Some d) × (t / 2 ≡ upper)
 
 abbrev pub HoldsSrc : Bool → Src → Type 0
-HoldsSrc wide s = (v : ℕ) × (t : ℕ) × (v < 256) × (t < 16) × (source_of wide v t ≡ ReadSrc.Is s)
+HoldsSrc wide s = (v : ℕ) × (t : ℕ) × (v < 256) × (t < 16) × (source_of wide v t ≡ Some s)
 
 abbrev pub HoldsHint : Hint → Type 0
 HoldsHint h = (b : ℕ) × (b < 2) × (cache_hint b ≡ h)
@@ -96,7 +93,7 @@ NoAbsentBit i = word_for i < 2 ^ (8 * length_of i)
 -- ---- the finding rule, given the bytes alone
 
 abbrev pub Finds : Instruction → Type 0
-Finds i = find_of (bytes_for i) ≡ Find.At (place_of i) (length_of i)
+Finds i = find_of (bytes_for i) ≡ Ok (place_of i, length_of i)
 
 -- ---- none of the reasons
 

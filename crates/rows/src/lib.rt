@@ -17,6 +17,7 @@ pub struct Row {
 
 // The row at a place. A group of digits is a cell of the strip, from the top bit down. A match and not an array: an array would be
 // laid out on the stack at each call.
+// A place is a number, as in the definition `table`: the place in the list of the document.
 pub fn row_at(place: usize) -> Row
     requires { place < 22 }
     ensures { result ≡ get_or table place no_row }

@@ -1,4 +1,5 @@
 -- An accepted step goes on within the code: the instruction is lent whole, and a jump lands no further than the end.
+use Rattle.std.proofs.Common.{Ok, Err}
 use mathlib.Core.Path.{◌≡◌, refl, subst}
 use mathlib.Core.Bool.{Bool, true, false, cond}
 use mathlib.Core.List.{List}
@@ -10,7 +11,7 @@ use lib.ListN.{length, drop, length-drop}
 use lib.IntN.{ℤ, pos, negsuc, ◌+ℤ◌}
 use Rattle.isa.specs.Decode.{decode_of}
 use Rattle.isa.specs.Refusal.{refusal}
-use Rattle.isa.specs.declared.answer.Decoded.{Decoded}
+use Rattle.isa.specs.Answer.{Decoded}
 use Rattle.isa.proofs.Found.{found-length}
 use Rattle.machine.specs.Words.{Tables}
 use Rattle.machine.specs.Meaning.{Meaning, writes, masks, jumps, meaning_of, both}
@@ -50,8 +51,8 @@ Stays size (refused r) = Unit {0}
 module _ (code : List ℕ) (tables : Tables) (s : State) (h : s.address ≤ length code) where
   by-decoded : (d : Decoded) → decode_of (drop s.address code) ≡ d → Stays (length code) (step_by d (length code) tables s)
   unfolding step_by
-  by-decoded (Decoded.Refused r) e = tt
-  by-decoded (Decoded.Found i n) e =
+  by-decoded (Err r) e = tt
+  by-decoded (Ok (i, n)) e =
       held (leb (32 * registers_reach (meaning_of i)) (length s.threads.registers))
       (leb (32 * specials_reach (meaning_of i)) (length tables.specials)) (reads_marked (meaning_of i) s.threads)
       (going_of (meaning_of i) (length code) n s.address s.threads.mask)

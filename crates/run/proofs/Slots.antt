@@ -10,35 +10,31 @@ use lib.ListN.{length, get_or, set, drop, replicate, length-set, length-replicat
 use lib.Seq.{get_or-set_same, get_or-set_other}
 use Rattle.isa.specs.Decode.{decode_of}
 use Rattle.isa.specs.declared.operand.Destination.{Destination}
-use Rattle.machine.specs.Words.{Tables}
 use Rattle.machine.specs.Meaning.{none}
 use Rattle.operations.specs.declared.Operation.{Operation}
 use Rattle.operations.specs.declared.action.Kind.{Kind}
 use Rattle.action.specs.Acts.{action_with}
-use Rattle.effect.specs.Rows.{Rows, Fit}
-use Rattle.effect.proofs.Values.{rows_fit}
+use Rattle.std.specs.Prelude.{Ok}
 use Rattle.plan.specs.Plan.{Says, Planned, PlanOf}
 use Rattle.plan.specs.declared.Plan.{Plan}
-use Rattle.plan.specs.declared.Verdict.{Verdict}
-use Rattle.step.specs.declared.Turn.{Turn}
-use Rattle.step.specs.Told.{rows_left}
 use Rattle.run.specs.Cache.{slots, Cached}
 
 -- what stands past the end of the cache
 abbrev pub no_plan : Plan
 no_plan = record {
   address = 0;
-  bytes = 0;
-  registers = 0;
-  specials = 0;
-  discards = false;
-  verdict = Verdict.Acts;
-  action = action_with Kind.Writes (Destination.Half 0) none none none (Operation.Mov 0) 0;
+  task = Ok (record {
+    bytes = 0;
+    registers = 0;
+    specials = 0;
+    discards = false;
+    action = action_with Kind.Writes (Destination.Half 0) none none none (Operation.Mov 0) 0;
+  });
 }
 
 -- the plan of an address is the plan of the code at its own
 plan_here : (code : List ℕ) (address : ℕ) (p : Plan) → Planned (decode_of (drop address code)) address p → PlanOf code p
-plan_here code address p q = subst (λ (a : ℕ). Says (decode_of (drop a code)) p) (sym q.here) q.says
+plan_here code address p q = subst (λ (a : ℕ). Says (decode_of (drop a code)) p.task) (sym q.here) q.says
 
 -- one plan in all slots
 pub cached_first : (code : List ℕ) (address : ℕ) (p : Plan) → Planned (decode_of (drop address code)) address p → Cached code (replicate slots p)
@@ -84,9 +80,3 @@ module _ (code : List ℕ) (cache after : List Plan) (k address : ℕ) (w : Cach
       ⊎ (((get_or cache k no_plan).address ≡ address) × (after ≡ cache)) → Here code after (get_or after k no_plan) address
   looked (inl (p, q, e)) = renewed p q e
   looked (inr (a, e)) = known a e
-
--- the rows keep their sizes
-pub rows-kept : (turn : Turn) (p : Plan) (tables : Tables) (registers : List ℕ) (r after : Rows) → after ≡ rows_left turn p tables registers r
-    → Fit r → Fit after
-rows-kept (Turn.Goes address mask bytes class) p tables registers r after e f = subst Fit (sym e) (rows_fit p.action tables registers r f)
-rows-kept (Turn.Stops refusal) p tables registers r after e f = subst Fit (sym e) f

@@ -18,7 +18,9 @@ use Rattle.machine.specs.declared.answer.Ending.{Ending}
 use Rattle.machine.proofs.Steps.{step_made}
 use Rattle.machine.proofs.Sizes.{sizes}
 use Rattle.machine.proofs.Runs.{refused_changes_nothing}
-use Rattle.step.specs.declared.Turn.{Turn}
+use Rattle.std.specs.Prelude.{Result, Ok, Err}
+use Rattle.jumps.specs.AsGoing.{class_number}
+use Rattle.step.specs.declared.Outcome.{Outcome}
 use Rattle.step.specs.Told.{goes, stops, told, told_by}
 use Rattle.run.specs.Ran.{Ran}
 use Rattle.run.proofs.Inside.{step_inside}
@@ -102,7 +104,7 @@ module _ {c : Call} {registers marks room : List ℕ} {address mask steps : ℕ}
       ends-here Ending.Spent (ap runs z ∙ spends c.code (tables_of c) here ne)
 
   -- one more step, of which the code has told
-  module _ (ne : address ≡ length c.code → ⊥) (left : steps ≡ c.budget → ⊥) (turn : Turn) (registers' marks' : List ℕ)
+  module _ (ne : address ≡ length c.code → ⊥) (left : steps ≡ c.budget → ⊥) (turn : Result Outcome Refusal) (registers' marks' : List ℕ)
       (t : told turn registers' marks' ≡ told_by (step_of c.code (tables_of c) here) (threads_at registers marks mask)) where
     abbrev ahead : ℕ
     ahead = c.budget - (steps + 1)
@@ -110,7 +112,7 @@ module _ {c : Call} {registers marks room : List ℕ} {address mask steps : ℕ}
     budget_left : c.budget - steps ≡ suc ahead
     budget_left = let h = w.within in omega arith
 
-    pub at-refusal : (r : Refusal) → turn ≡ Turn.Stops r → Ran c (answer (Ending.Refused r) steps address mask) registers' marks' room
+    pub at-refusal : (r : Refusal) → turn ≡ Err r → Ran c (answer (Ending.Refused r) steps address mask) registers' marks' room
     at-refusal r e = go (step_of c.code (tables_of c) here) refl (rw e at t)
       where
         go : (x : Stepped) → step_of c.code (tables_of c) here ≡ x → stops r registers' marks' ≡ told_by x (threads_at registers marks mask)
@@ -125,22 +127,22 @@ module _ {c : Call} {registers marks room : List ℕ} {address mask steps : ℕ}
             (ap runs budget_left ∙ refused_changes_nothing c.code (tables_of c) ahead here r ne (x ∙ ap refused same)))
 
     -- the step's record is put behind those of the steps before
-    pub at-step : (address' mask' bytes class : ℕ) (made room' : List ℕ) → turn ≡ Turn.Goes address' mask' bytes class
-        → length registers' ≡ length registers → length marks' ≡ length marks → made ≡ record_bytes address bytes class mask mask' → room' ≡ sets room (16 * steps) made
-        → OnWay c registers' marks' room' address' mask' (steps + 1)
+    pub at-step : (o : Outcome) (made room' : List ℕ) → turn ≡ Ok o
+        → length registers' ≡ length registers → length marks' ≡ length marks → made ≡ record_bytes address o.bytes (class_number o.class) mask o.mask
+        → room' ≡ sets room (16 * steps) made → OnWay c registers' marks' room' o.address o.mask (steps + 1)
     unfolding record_of
-    at-step address' mask' bytes class made room' e l l' m p = go (step_of c.code (tables_of c) here) refl (rw e at t)
+    at-step o made room' e l l' m p = go (step_of c.code (tables_of c) here) refl (rw e at t)
       where
         next : State
-        next = state_at (threads_at registers' marks' mask') address'
+        next = state_at (threads_at registers' marks' o.mask) o.address
 
-        go : (x : Stepped) → step_of c.code (tables_of c) here ≡ x → goes bytes class next ≡ told_by x (threads_at registers marks mask)
-            → OnWay c registers' marks' room' address' mask' (steps + 1)
+        go : (x : Stepped) → step_of c.code (tables_of c) here ≡ x → goes o.bytes (class_number o.class) next ≡ told_by x (threads_at registers marks mask)
+            → OnWay c registers' marks' room' o.address o.mask (steps + 1)
         go (refused r) x q = let z : ◌≡◌ {A = ℕ} 0 1 = cc in absurd (omega arith)
         go (accepted step) x q =
             let b : here ≡ step.before = sym (step_made (tables_of c) here c.code step x).before in
-            let n : bytes ≡ step.bytes = cc in
-            let k : class ≡ step.class = cc in
+            let n : o.bytes ≡ step.bytes = cc in
+            let k : class_number o.class ≡ step.class = cc in
             let a : next ≡ step.after = cc in
             let j : made ≡ record_of step = m ∙ λ i. record_bytes (b i).address (n i) (k i) (b i).threads.mask (a i).threads.mask in
             let f : room' ≡ sets room (16 * steps) (record_of step) = p ∙ ap (sets room (16 * steps)) j in

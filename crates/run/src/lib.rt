@@ -5,10 +5,11 @@ ghost use Rattle.std.specs.Prelude.{◌≡◌, true};
 ghost use Rattle.machine.specs.Run.{arranged};
 ghost use Rattle.run.specs.Ran.{Ran, call_of};
 
+use effect::{Rows, Tables};
 use isa::answer::Refusal;
 use machine::answer::{Answer, Ending};
+use sizes::Sizes;
 use slots::SLOTS;
-use step::Turn;
 
 // A run whose sizes are as they have to be. The cache holds plans, each in the slot of its address; where the slot has the plan of another
 // address, that of this one takes its place. The run is quiet as long as no mark is set.
@@ -27,13 +28,17 @@ fn run_arranged(
     ensures { Ran (call_of code.now registers.old marks.old uniforms.now specials.now start mask budget records.old)
         result registers.new marks.new records.new }
 {
-    let mut sources = [[0u64; 32]; 3];
-    let mut values = [0u64; 32];
+    let tables = Tables { uniforms, specials };
+    let mut rows = Rows {
+        sources: [[0; 32]; 3],
+        values: [0; 32],
+    };
     let mut cache = [plan::past_end(code); SLOTS];
     let mut quiet = markrows::clear(marks);
     let mut address = start;
     let mut active = mask;
     let mut steps = 0;
+    // A `while`: the next address is what the step answers.
     while address != code.len() {
         if steps == budget {
             return Answer {
@@ -44,43 +49,29 @@ fn run_arranged(
             };
         }
         let k = slots::slot_of(address);
-        let known = cache[k];
-        if !slots::is_of(known.address, address) {
+        if !slots::is_of(cache[k].address, address) {
             cache[k] = plan::at(code, address);
         }
-        let p = cache[k];
-        quiet = marks::stays_quiet(quiet, p.discards);
+        let plan = &cache[k];
+        quiet = marks::stays_quiet(quiet, plan.discards());
         match step::step(
-            p,
-            quiet,
-            code,
-            registers,
-            marks,
-            uniforms,
-            specials,
-            active,
-            &mut sources,
-            &mut values,
+            plan, quiet, code, registers, marks, tables, active, &mut rows,
         ) {
-            Turn::Stops(r) => {
+            Ok(next) => {
+                let class = next.class.number();
+                let record = records::record(address, next.bytes, class, active, next.mask);
+                bits::piece::put(records, 16 * steps, &record);
+                address = next.address;
+                active = next.mask;
+                steps += 1;
+            }
+            Err(r) => {
                 return Answer {
                     ending: Ending::Refused(r),
                     steps,
                     address,
                     mask: active,
                 };
-            }
-            Turn::Goes {
-                address: next,
-                mask: after,
-                bytes,
-                class,
-            } => {
-                let record = records::record(address, bytes, class, active, after);
-                bits::piece::put(records, 16 * steps, &record);
-                address = next;
-                active = after;
-                steps += 1;
             }
         }
     }
@@ -108,16 +99,17 @@ pub fn run(
     ensures { Ran (call_of code.now registers.old marks.old uniforms.now specials.now start mask budget records.old)
         result registers.new marks.new records.new }
 {
-    if !sizes::arranged(
-        code.len(),
-        registers.len(),
-        marks.len(),
-        uniforms.len(),
-        specials.len(),
+    let sizes = Sizes {
+        code: code.len(),
+        registers: registers.len(),
+        marks: marks.len(),
+        uniforms: uniforms.len(),
+        specials: specials.len(),
         start,
         budget,
-        records.len(),
-    ) {
+        records: records.len(),
+    };
+    if !sizes.arranged() {
         return Answer {
             ending: Ending::Refused(Refusal::BadSize),
             steps: 0,

@@ -8,6 +8,7 @@ ghost use Rattle.runbytes.specs.Space.{Space, RanIn};
 use bits::piece;
 use isa::answer::Refusal;
 use machine::answer::Ending;
+use sizes::Sizes;
 
 // A call that is taken, with space for the words.
 fn run_in(
@@ -67,16 +68,17 @@ pub fn run(
     ) {
         return Ending::Refused(Refusal::BadSize);
     }
-    if !sizes::arranged(
-        code.len(),
-        n,
-        marks.len(),
-        m,
-        k,
+    let sizes = Sizes {
+        code: code.len(),
+        registers: n,
+        marks: marks.len(),
+        uniforms: m,
+        specials: k,
         start,
         budget,
-        records.len(),
-    ) {
+        records: records.len(),
+    };
+    if !sizes.arranged() {
         return Ending::Refused(Refusal::BadSize);
     }
     let mut r = [0u32; 4096];

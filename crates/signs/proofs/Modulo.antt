@@ -1,6 +1,5 @@
 -- Laws of integers modulo 2^64, and of sign extension.
 use Rattle.std.proofs.Common.{◌≡◌, ℕ, zero, suc, ◌+◌, ◌-◌, ◌*◌, ◌/◌, ◌%◌, ◌^◌, ◌<◌, ◌≤◌, Bool, true, false, cond, eqb, ltb, ℤ, pos, negsuc, ◌+ℤ◌, neg_ℤ, sym, refl, ap, ◌∙◌, mod-lt, div-lt_iff_lt-mul, div-add-mod', arith, pow_pos, pow_mono, pow-add, shl_exact, ltb-false, ltb-true, le-ltb, lt-ltb, eqb-true}
-use native.Mathlib.Nat.{mod-add-mod}
 use lib.Bits.{bit_and, bit_xor, xor_add_and, and_high}
 use lib.Pow.{suc_ones}
 use lib.IntN.{sub_ℕ}
@@ -47,17 +46,11 @@ pow_pred (suc k) h =
 pub sign_power : (s : ℕ) → Sized s → 1 * 2 ^ (s - 1) % 2 ^ 64 ≡ 2 ^ (s - 1)
 sign_power s h = shl_exact 1 (s - 1) 64 (omega arith) (omega arith) ∙ omega arith
 
--- what the difference of words is
-minus : (r t y : ℕ) → r < 2 ^ 64 → t ≤ 2 ^ 64 → (r + t) % 2 ^ 64 ≡ y → r ≡ (y + (2 ^ 64 - t)) % 2 ^ 64
-minus r t y h k e =
-    let o : (r + t + (2 ^ 64 - t)) % 2 ^ 64 ≡ r = omega arith in
-    rw (← e, mod-add-mod (r + t) (2 ^ 64) (2 ^ 64 - t), o)
-
 -- the sign bit turned over, less its power, is the sign-extended value
-pub xor_extends : (x s r : ℕ) → Sized s → r < 2 ^ 64 → (r + 2 ^ (s - 1)) % 2 ^ 64 ≡ bit_xor x (2 ^ (s - 1))
-    → r ≡ modulo (sign_extend x s) 64
+pub xor_extends : (x s : ℕ) → Sized s
+    → (bit_xor x (2 ^ (s - 1)) + (2 ^ 64 - 2 ^ (s - 1))) % 2 ^ 64 ≡ modulo (sign_extend x s) 64
 unfolding modulo sign_extend
-xor_extends x s r h k e = go (eqb (x / 2 ^ (s - 1) % 2) 0) refl
+xor_extends x s h = go (eqb (x / 2 ^ (s - 1) % 2) 0) refl
   where
     m : 2 ^ s ≤ 2 ^ 64
     m = pow_mono h.1
@@ -65,19 +58,17 @@ xor_extends x s r h k e = go (eqb (x / 2 ^ (s - 1) % 2) 0) refl
     p : 2 ^ s ≡ 2 * 2 ^ (s - 1)
     p = pow_pred s h.0
 
-    d : r ≡ (bit_xor x (2 ^ (s - 1)) + (2 ^ 64 - 2 ^ (s - 1))) % 2 ^ 64
-    d = minus r (2 ^ (s - 1)) (bit_xor x (2 ^ (s - 1))) k (omega (arith, m, p)) e
-
-    go : (b : Bool) → eqb (x / 2 ^ (s - 1) % 2) 0 ≡ b → r ≡ modulo (cond b (pos x) (pos x +ℤ neg_ℤ (pos (2 ^ s)))) 64
+    go : (b : Bool) → eqb (x / 2 ^ (s - 1) % 2) 0 ≡ b
+        → (bit_xor x (2 ^ (s - 1)) + (2 ^ 64 - 2 ^ (s - 1))) % 2 ^ 64 ≡ modulo (cond b (pos x) (pos x +ℤ neg_ℤ (pos (2 ^ s)))) 64
     go true t =
         let z : x / 2 ^ (s - 1) % 2 ≡ 0 = eqb-true (x / 2 ^ (s - 1) % 2) 0 t in
         let f : bit_xor x (2 ^ (s - 1)) + 0 * 2 ^ (s - 1) * 2 ≡ x + 2 ^ (s - 1) = rw z at (xor_bit x (s - 1)) in
-        omega (arith, d, m, p)
+        omega (arith, m, p)
     go false t =
         let z : x / 2 ^ (s - 1) % 2 ≡ 1 = omega (arith, eqb-false (x / 2 ^ (s - 1) % 2) 0 t) in
         let f : bit_xor x (2 ^ (s - 1)) + 1 * 2 ^ (s - 1) * 2 ≡ x + 2 ^ (s - 1) = rw z at (xor_bit x (s - 1)) in
         let g : bit_xor x (2 ^ (s - 1)) + (2 ^ 64 - 2 ^ (s - 1)) ≡ x + (2 ^ 64 - 2 ^ s) = omega (arith, f, m, p) in
-        rw (less_power x s h.1, ← g) d
+        rw (less_power x s h.1, ← g) refl
 
 -- ---- the signed reading
 

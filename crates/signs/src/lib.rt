@@ -10,15 +10,16 @@ ghost use Rattle.signs.specs.Signed.{signed_of};
 
 // x, sign-extended from its bit size where signed is 1, modulo 2^64. Both cases run the same arithmetic, so that a loop over the threads
 // becomes vector instructions.
+// `Sized` is asked by three: the size is a byte of `Sum` and `Test`, whose definitions take any.
 pub fn extend(x: u64, signed: u8, size: u8) -> u64
     requires { Sized size }
     ensures { result ≡ modulo (meaning.extended signed size x) 64 }
 {
     let top = if signed == 1 { 1u64 << (size - 1) } else { 0 };
-    std::num::wrapping_sub_u64(x ^ top, top)
+    (x ^ top).wrapping_sub(top)
 }
 
-// A shift to the right by any amount.
+// A shift to the right by any amount. fields has this line too; an edge from this crate to that one would be no plainer.
 fn shift(x: u64, k: u64) -> u64
     ensures { result ≡ x / 2 ^ k }
 {

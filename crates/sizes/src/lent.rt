@@ -2,8 +2,6 @@
 ghost use Rattle.std.specs.Prelude.{◌≡◌};
 ghost use Rattle.sizes.specs.Lent.{whole_words, spelled_by};
 
-use crate::and;
-
 fn whole_words(bytes: usize) -> bool
     ensures { result ≡ whole_words bytes }
 {
@@ -14,11 +12,5 @@ fn whole_words(bytes: usize) -> bool
 pub fn spelled(registers: usize, uniforms: usize, specials: usize, answer: usize) -> bool
     ensures { result ≡ spelled_by registers uniforms specials answer }
 {
-    and(
-        whole_words(registers),
-        and(
-            whole_words(uniforms),
-            and(whole_words(specials), 24 <= answer),
-        ),
-    )
+    whole_words(registers) && whole_words(uniforms) && whole_words(specials) && 24 <= answer
 }

@@ -13,6 +13,7 @@ pub fn slot_of(address: usize) -> usize
 }
 
 // Whether what is kept is this address's, and not that of another with the same slot.
+// A function, since `kept == address` at its call would not say what is asked.
 pub fn is_of(kept: usize, address: usize) -> bool
     ensures { result ≡ eqb kept address }
 {

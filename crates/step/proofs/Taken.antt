@@ -1,5 +1,5 @@
 -- The cases of a step.
-use mathlib.Core.Path.{◌≡◌, refl, sym, ap, ap₂, ◌∙◌}
+use mathlib.Core.Path.{◌≡◌, refl, sym, subst, ap, ap₂, ◌∙◌}
 use mathlib.Core.Bool.{Bool, true, false, cond, not}
 use mathlib.Core.List.{List, []}
 use Prim.Native.Nat.{ℕ, ◌*◌, ◌/◌, ◌^◌, ◌≤◌, ◌<◌}
@@ -11,7 +11,7 @@ use Rattle.isa.specs.Decode.{decode_of}
 use Rattle.isa.specs.Refusal.{refusal}
 use Rattle.isa.proofs.Found.{found-length}
 use Rattle.isa.specs.declared.answer.Refusal.{Refusal}
-use Rattle.isa.specs.declared.answer.Decoded.{Decoded}
+use Rattle.isa.specs.Answer.{Decoded}
 use Rattle.isa.specs.declared.instruction.Instruction.{Instruction}
 use Rattle.machine.specs.Words.{Tables}
 use Rattle.isa.specs.declared.operand.Hint.{Hint}
@@ -28,9 +28,10 @@ use Rattle.machine.specs.Step.{Going, to, nowhere, refused, registers_reach, spe
 use Rattle.operations.specs.Action.{meaning_for, meaning_by}
 use Rattle.operations.specs.declared.action.Kind.{Kind}
 use Rattle.operations.specs.declared.action.Action.{Action}
-use Rattle.plan.specs.Plan.{Says, PlanOf}
+use Rattle.plan.specs.Plan.{discards_by, Says, PlanOf}
 use Rattle.plan.specs.declared.Plan.{Plan}
-use Rattle.plan.specs.declared.Verdict.{Verdict}
+use Rattle.plan.specs.declared.Task.{Task}
+use Rattle.std.specs.Prelude.{Ok, Err}
 use Rattle.step.specs.Told.{Told, stops, told_by, gone_to, taken_by, Ready, QuietPlan}
 
 module _ (m : Meaning) (bytes size : ℕ) (tables : Tables) (s : State) where
@@ -101,7 +102,7 @@ module _ (size : ℕ) (tables : Tables) (s : State) where
   of_going (nowhere r) i bytes = refl
 
   pub found : (i : Instruction) (bytes : ℕ)
-      → taken_by (meaning_of i) bytes size tables s ≡ told_by (step_by (Decoded.Found i bytes) size tables s) s.threads
+      → taken_by (meaning_of i) bytes size tables s ≡ told_by (step_by (Ok (i, bytes)) size tables s) s.threads
   unfolding taken_by step_by
   found i bytes =
       split (leb (32 * registers_reach (meaning_of i)) (length s.threads.registers))
@@ -122,7 +123,7 @@ module _ (size : ℕ) (tables : Tables) (s : State) where
       split false b c = refl
 
   pub refused-by : (r : Refusal)
-      → stops r s.threads.registers s.threads.marks ≡ told_by (step_by (Decoded.Refused r) size tables s) s.threads
+      → stops r s.threads.registers s.threads.marks ≡ told_by (step_by (Err r) size tables s) s.threads
   unfolding step_by
   refused-by r = refl
 
@@ -135,46 +136,43 @@ module _ (code : List ℕ) (tables : Tables) (threads : Threads) (p : Plan) (q :
   abbrev decoded_here : Decoded
   decoded_here = decode_of (drop p.address code)
 
-  pub plan_refused : (r : Refusal) → p.verdict ≡ Verdict.Refused r
-      → stops r threads.registers threads.marks ≡ told_by (step_of code tables here) threads
+  pub plan_refused : (r : Refusal) → p.task ≡ Err r → stops r threads.registers threads.marks ≡ told_by (step_of code tables here) threads
   unfolding step_of
-  plan_refused r e = go decoded_here q
+  plan_refused r e = go decoded_here (subst (Says decoded_here) e q)
     where
-      go : (d : Decoded) → Says d p → stops r threads.registers threads.marks ≡ told_by (step_by d (length code) tables here) threads
-      go (Decoded.Refused r') w =
-          let same : r ≡ r' = cc in
-          ap (λ (x : Refusal). stops x threads.registers threads.marks) same ∙ refused-by (length code) tables here r'
-      go (Decoded.Found i n) w =
-          let v = ap (λ (x : Plan). x.verdict) w.is in
-          let z : ◌≡◌ {A = ℕ} 0 1 = cc in absurd (omega arith)
+      go : (d : Decoded) → Says d (Err r) → stops r threads.registers threads.marks ≡ told_by (step_by d (length code) tables here) threads
+      go (Err r') w = ap (λ (x : Refusal). stops x threads.registers threads.marks) w ∙ refused-by (length code) tables here r'
+      go (Ok (i, n)) w = absurd w
 
-  pub plan_taken : p.verdict ≡ Verdict.Acts
-      → taken_by (meaning_by p.action) p.bytes (length code) tables here ≡ told_by (step_of code tables here) threads
-  unfolding step_of
-  plan_taken e = go decoded_here q
-    where
-      go : (d : Decoded) → Says d p
-          → taken_by (meaning_by p.action) p.bytes (length code) tables here ≡ told_by (step_by d (length code) tables here) threads
-      go (Decoded.Refused r) w = let z : ◌≡◌ {A = ℕ} 0 1 = cc in absurd (omega arith)
-      go (Decoded.Found i n) w =
-          ap₂ (λ (m : Meaning) (bytes : ℕ). taken_by m bytes (length code) tables here) w.acts.meaning (ap (λ (x : Plan). x.bytes) w.is)
-          ∙ found (length code) tables here i n
+  module _ (t : Task) (e : p.task ≡ Ok t) where
+    said : Says decoded_here (Ok t)
+    said = subst (Says decoded_here) e q
 
-  pub plan_ready : p.verdict ≡ Verdict.Acts → p.address < 2 ^ 32 → Ready p
-  plan_ready e h = go decoded_here refl q
-    where
-      go : (d : Decoded) → decoded_here ≡ d → Says d p → Ready p
-      go (Decoded.Refused r) x w = let z : ◌≡◌ {A = ℕ} 0 1 = cc in absurd (omega arith)
-      go (Decoded.Found i n) x w =
-          let b : p.bytes ≡ n = ap (λ (x : Plan). x.bytes) w.is in
-          let l = found-length (drop p.address code) i n x in
-          record {
-            fitting = w.acts.fitting;
-            registers = ap (λ (x : Plan). x.registers) w.is;
-            specials = ap (λ (x : Plan). x.specials) w.is;
-            address = h;
-            bytes = omega (arith, l.1);
-          }
+    pub plan_taken : taken_by (meaning_by t.action) t.bytes (length code) tables here ≡ told_by (step_of code tables here) threads
+    unfolding step_of
+    plan_taken = go decoded_here said
+      where
+        go : (d : Decoded) → Says d (Ok t)
+            → taken_by (meaning_by t.action) t.bytes (length code) tables here ≡ told_by (step_by d (length code) tables here) threads
+        go (Err r) w = absurd w
+        go (Ok (i, n)) w =
+            ap₂ (λ (m : Meaning) (bytes : ℕ). taken_by m bytes (length code) tables here) w.acts.meaning (ap (λ (x : Task). x.bytes) w.is)
+            ∙ found (length code) tables here i n
+
+    pub plan_ready : Ready t
+    plan_ready = go decoded_here refl said
+      where
+        go : (d : Decoded) → decoded_here ≡ d → Says d (Ok t) → Ready t
+        go (Err r) x w = absurd w
+        go (Ok (i, n)) x w =
+            let b : t.bytes ≡ n = ap (λ (x : Task). x.bytes) w.is in
+            let l = found-length (drop p.address code) i n x in
+            record {
+              fitting = w.acts.fitting;
+              registers = ap (λ (x : Task). x.registers) w.is;
+              specials = ap (λ (x : Task). x.specials) w.is;
+              bytes = omega (arith, l.1);
+            }
 
 -- ---- quiet plans
 
@@ -210,18 +208,19 @@ no_discards x e = go x.kind
     go Kind.JumpsIfNone = refl
 
 -- where no mark was set and the plan discards nothing, it is quiet
-pub quiet_plan : (code : List ℕ) (p : Plan) → PlanOf code p → (quiet still : Bool) (marks : List ℕ) → still ≡ both quiet (not p.discards)
+pub quiet_plan : (code : List ℕ) (p : Plan) → PlanOf code p → (quiet still : Bool) (marks : List ℕ) → still ≡ both quiet (not (discards_by p.task))
     → (quiet ≡ true → AllClear marks) → QuietPlan still p marks
-quiet_plan code p w quiet still marks e z acts t = go (decode_of (drop p.address code)) w
+quiet_plan code p w quiet still marks e z t k s = go (decode_of (drop p.address code)) (subst (Says (decode_of (drop p.address code))) k w)
   where
-    h : (quiet ≡ true) × (not p.discards ≡ true)
-    h = parts quiet (not p.discards) (sym e ∙ t)
+    h : (quiet ≡ true) × (not (discards_by p.task) ≡ true)
+    h = parts quiet (not (discards_by p.task)) (sym e ∙ s)
 
-    go : (d : Decoded) → Says d p → Quiet (meaning_by p.action) marks
-    go (Decoded.Refused r) s = let y : ◌≡◌ {A = ℕ} 0 1 = cc in absurd (omega arith)
-    go (Decoded.Found i n) s =
-        let same : p.discards ≡ discarding p.action = ap (λ (x : Plan). x.discards) s.is in
-        (z h.0, no_discards p.action (sym same ∙ not-true p.discards h.1))
+    go : (d : Decoded) → Says d (Ok t) → Quiet (meaning_by t.action) marks
+    go (Err r) x = absurd x
+    go (Ok (i, n)) x =
+        let same : t.discards ≡ discarding t.action = ap (λ (y : Task). y.discards) x.is in
+        let none : t.discards ≡ false = ap discards_by (sym k) ∙ not-true (discards_by p.task) h.1 in
+        (z h.0, no_discards t.action (sym same ∙ none))
 
 pub still_clear : (quiet still discards : Bool) (marks : List ℕ) → still ≡ both quiet (not discards) → (quiet ≡ true → AllClear marks)
     → still ≡ true → AllClear marks

@@ -1,5 +1,5 @@
 -- What the code tells of a step: all of it but the instruction, which is the definition's; and what it leaves in the rows it worked in.
-use Rattle.std.specs.Prelude.{ℕ, ◌*◌, ◌^◌, ◌<◌, ◌≡◌, Bool, cond, List, leb, length}
+use Rattle.std.specs.Prelude.{ℕ, ◌*◌, ◌^◌, ◌<◌, ◌≡◌, Bool, cond, List, leb, length, Result, Ok, Err}
 use Rattle.isa.specs.Refusal.{refusal}
 use Rattle.isa.specs.declared.answer.Refusal.{Refusal}
 use Rattle.machine.specs.Words.{Tables}
@@ -8,11 +8,13 @@ use Rattle.machine.specs.State.{Threads, State, threads_at, state_at}
 use Rattle.machine.specs.Marks.{reads_marked}
 use Rattle.machine.specs.Step.{Going, to, nowhere, Stepped, accepted, refused, registers_reach, specials_reach, going_of, threads_after}
 use Rattle.operations.specs.Action.{meaning_by, FittingBy}
-use Rattle.effect.specs.Rows.{Rows, rows_after}
+use Rattle.effect.specs.Rows.{rows_after}
+use Rattle.effect.specs.declared.Rows.{Rows}
+use Rattle.jumps.specs.AsGoing.{class_number}
 use Rattle.marks.specs.Settled.{QuietIf}
 use Rattle.plan.specs.declared.Plan.{Plan}
-use Rattle.plan.specs.declared.Verdict.{Verdict}
-use Rattle.step.specs.declared.Turn.{Turn}
+use Rattle.plan.specs.declared.Task.{Task}
+use Rattle.step.specs.declared.Outcome.{Outcome}
 
 -- the length of the instruction, the class and the state after an accepted step; of a refused one the registers and the marks, as they
 -- were
@@ -20,9 +22,9 @@ pub data Told : Type 0 where
   goes : ℕ → ℕ → State → Told
   stops : Refusal → List ℕ → List ℕ → Told
 
-abbrev pub told : Turn → List ℕ → List ℕ → Told
-told (Turn.Goes address mask bytes class) registers marks = goes bytes class (state_at (threads_at registers marks mask) address)
-told (Turn.Stops r) registers marks = stops r registers marks
+abbrev pub told : Result Outcome Refusal → List ℕ → List ℕ → Told
+told (Ok outcome) registers marks = goes outcome.bytes (class_number outcome.class) (state_at (threads_at registers marks outcome.mask) outcome.address)
+told (Err r) registers marks = stops r registers marks
 
 -- a step from these threads
 abbrev pub told_by : Stepped → Threads → Told
@@ -48,19 +50,19 @@ taken_by m bytes size tables s =
 
 -- ---- plans
 
--- a plan whose action can be taken
-pub record Ready (p : Plan) : Type 0 where
-  pub fitting : FittingBy p.action
-  pub registers : p.registers ≡ registers_reach (meaning_by p.action)
-  pub specials : p.specials ≡ specials_reach (meaning_by p.action)
-  pub address : p.address < 2 ^ 32
-  pub bytes : p.bytes < 2 ^ 32
+-- a task that can be done
+pub record Ready (t : Task) : Type 0 where
+  pub fitting : FittingBy t.action
+  pub registers : t.registers ≡ registers_reach (meaning_by t.action)
+  pub specials : t.specials ≡ specials_reach (meaning_by t.action)
+  pub bytes : t.bytes < 2 ^ 32
 
 -- a refused step leaves the rows as they were
-abbrev pub rows_left : Turn → Plan → Tables → List ℕ → Rows → Rows
-rows_left (Turn.Goes address mask bytes class) p tables registers r = rows_after p.action tables registers r
-rows_left (Turn.Stops refusal) p tables registers r = r
+abbrev pub rows_left : Result Outcome Refusal → Result Task Refusal → Tables → List ℕ → Rows → Rows
+rows_left (Ok outcome) (Ok task) tables registers r = rows_after task.action tables registers r
+rows_left (Ok outcome) (Err refusal) tables registers r = r
+rows_left (Err refusal) task tables registers r = r
 
--- a plan that acts is quiet
+-- a plan with a task is quiet
 abbrev pub QuietPlan : Bool → Plan → List ℕ → Type 0
-QuietPlan quiet p marks = p.verdict ≡ Verdict.Acts → QuietIf quiet (meaning_by p.action) marks
+QuietPlan quiet p marks = (t : Task) → p.task ≡ Ok t → QuietIf quiet (meaning_by t.action) marks

@@ -5,116 +5,96 @@ ghost use Rattle.std.specs.Prelude.{◌≡◌, ◌*◌, ◌≤◌, ◌<◌, ◌^
 ghost use Rattle.machine.specs.Step.{step_of};
 ghost use Rattle.machine.specs.State.{threads_at, state_at};
 ghost use Rattle.operations.specs.Action.{meaning_by};
-ghost use Rattle.lanes.specs.Sources.{lent};
-ghost use Rattle.effect.specs.Rows.{rows, Fit};
+ghost use Rattle.effect.specs.Tables.{tables_of};
 ghost use Rattle.marks.specs.Settled.{QuietIf, KeptIf};
 ghost use Rattle.plan.specs.Plan.{PlanOf};
 ghost use Rattle.step.specs.Told.{told, told_by, taken_by, rows_left, Ready, QuietPlan};
 
+use effect::{Rows, Tables};
 use isa::answer::Refusal;
-use jumps::Going;
-use plan::{Plan, Verdict};
+use jumps::Class;
+use plan::{Plan, Task};
 
-// What a step comes to: the address, the mask and, for its record, the length of the instruction and the class; or the refusal.
+// What an accepted step comes to: the address to go on at, the mask and, for its record, the length of the instruction and the class.
 #[derive(Clone, Copy)]
-pub enum Turn {
-    Goes {
-        address: usize,
-        mask: u32,
-        bytes: usize,
-        class: u8,
-    },
-    Stops(Refusal),
+pub struct Outcome {
+    pub address: usize,
+    pub mask: u32,
+    pub bytes: usize,
+    pub class: Class,
 }
 
-fn wide(x: u16) -> usize
-    ensures { result ≡ x }
-{
-    x as usize
-}
-
-// The action of a plan, in code of some length.
+// The task of an address, in code of some length.
 fn take(
-    p: Plan,
-    quiet: bool,
+    task: &Task,
+    address: usize,
     size: usize,
+    quiet: bool,
     registers: &mut [u32],
     marks: &mut [u8],
-    uniforms: &[u32],
-    specials: &[u32],
+    tables: Tables,
     mask: u32,
-    sources: &mut [[u64; 32]; 3],
-    values: &mut [u64; 32],
-) -> Turn
-    requires { Ready p × (length marks.old ≡ 2 * length registers.old) × QuietIf quiet (meaning_by p.action) marks.old × Fit (rows sources.old values.old) }
+    rows: &mut Rows,
+) -> Result<Outcome, Refusal>
+    requires { Ready task.now × (address < 2 ^ 32) × (length marks.old ≡ 2 * length registers.old)
+        × QuietIf quiet (meaning_by task.now.action) marks.old }
     ensures { (told result registers.new marks.new
-        ≡ taken_by (meaning_by p.action) p.bytes size (lent uniforms.now specials.now)
-        (state_at (threads_at registers.old marks.old mask) p.address))
-        × (rows sources.new values.new
-        ≡ rows_left result p (lent uniforms.now specials.now) registers.old (rows sources.old values.old))
+        ≡ taken_by (meaning_by task.now.action) task.now.bytes size (tables_of tables.entry)
+        (state_at (threads_at registers.old marks.old mask) address))
+        × (rows.new ≡ rows_left result (Ok task.now) (tables_of tables.entry) registers.old rows.old)
         × KeptIf quiet marks.old marks.new }
 {
-    if registers.len() / 32 < wide(p.registers) {
-        return Turn::Stops(Refusal::NoRegister);
+    if registers.len() / 32 < usize::from(task.registers) {
+        return Err(Refusal::NoRegister);
     }
-    if specials.len() / 32 < wide(p.specials) {
-        return Turn::Stops(Refusal::NoSpecial);
+    if tables.specials.len() / 32 < usize::from(task.specials) {
+        return Err(Refusal::NoSpecial);
     }
-    let action = p.action;
-    if marks::step(action, quiet, registers, marks, mask) {
-        return Turn::Stops(Refusal::Discarded);
+    if marks::step(task.action, quiet, registers, marks, mask) {
+        return Err(Refusal::Discarded);
     }
-    match going::goes_to(action, size, p.bytes, p.address, mask) {
-        Going::Nowhere(r) => Turn::Stops(r),
-        Going::To(next, class) => {
-            let after = effect::act(action, registers, uniforms, specials, mask, sources, values);
-            Turn::Goes {
-                address: next,
-                mask: after,
-                bytes: p.bytes,
-                class,
-            }
-        }
-    }
+    let (next, class) = going::goes_to(task.action, size, task.bytes, address, mask)?;
+    let after = effect::act(&task.action, registers, tables, mask, rows);
+    Ok(Outcome {
+        address: next,
+        mask: after,
+        bytes: task.bytes,
+        class,
+    })
 }
 
 // The step at the address of a plan. It is quiet where no mark is set and none will be.
 pub fn step(
-    p: Plan,
+    plan: &Plan,
     quiet: bool,
     code: &[u8],
     registers: &mut [u32],
     marks: &mut [u8],
-    uniforms: &[u32],
-    specials: &[u32],
+    tables: Tables,
     mask: u32,
-    sources: &mut [[u64; 32]; 3],
-    values: &mut [u64; 32],
-) -> Turn
-    requires { PlanOf code.now p × (p.address ≤ length code.now) × (length code.now < 2 ^ 32)
-        × (length marks.old ≡ 2 * length registers.old) × QuietPlan quiet p marks.old × Fit (rows sources.old values.old) }
+    rows: &mut Rows,
+) -> Result<Outcome, Refusal>
+    requires { PlanOf code.now plan.now × (plan.now.address ≤ length code.now) × (length code.now < 2 ^ 32)
+        × (length marks.old ≡ 2 * length registers.old) × QuietPlan quiet plan.now marks.old }
     ensures { (told result registers.new marks.new
-        ≡ told_by (step_of code.now (lent uniforms.now specials.now)
-        (state_at (threads_at registers.old marks.old mask) p.address))
+        ≡ told_by (step_of code.now (tables_of tables.entry)
+        (state_at (threads_at registers.old marks.old mask) plan.now.address))
         (threads_at registers.old marks.old mask))
-        × (rows sources.new values.new
-        ≡ rows_left result p (lent uniforms.now specials.now) registers.old (rows sources.old values.old))
+        × (rows.new ≡ rows_left result plan.now.task (tables_of tables.entry) registers.old rows.old)
         × KeptIf quiet marks.old marks.new }
 {
-    let verdict = p.verdict;
-    match verdict {
-        Verdict::Refused(r) => Turn::Stops(r),
-        Verdict::Acts => take(
-            p,
-            quiet,
+    match &plan.task {
+        Ok(task) => take(
+            task,
+            plan.address,
             code.len(),
+            quiet,
             registers,
             marks,
-            uniforms,
-            specials,
+            tables,
             mask,
-            sources,
-            values,
+            rows,
         ),
+        Err(r) => Err(*r),
     }
 }

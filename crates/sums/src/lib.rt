@@ -26,7 +26,7 @@ pub fn iadd(o: Sum, a: u64, b: u64) -> u64
 {
     let x = extend(a, o.asigned, o.asize);
     let y = extend(b, o.bsigned, o.bsize);
-    let sum = std::num::wrapping_add_u64(x, term(y, o.negate, o.shift));
+    let sum = x.wrapping_add(term(y, o.negate, o.shift));
     if saturating(o.saturate, o.shift, o.asize, o.bsize, o.dsize) {
         limited(sum, o.dsize, signed(0, o.asigned, o.bsigned))
     } else {
@@ -44,9 +44,9 @@ pub fn imadd(o: Sum, a: u64, b: u64, c: u64) -> u64
     let z = extend(c, o.csigned, o.csize);
     let t = term(z, o.negate, o.shift);
     if saturating(o.saturate, o.shift, 0, o.csize, o.dsize) {
-        let sum = std::num::wrapping_add_u64(product(x, y, 1099511627776), t);
+        let sum = product(x, y, 1099511627776).wrapping_add(t);
         limited(sum, o.dsize, signed(o.asigned, o.bsigned, o.csigned))
     } else {
-        std::num::wrapping_add_u64(product(x, y, 18446744073709551615), t)
+        product(x, y, u64::MAX).wrapping_add(t)
     }
 }

@@ -9,12 +9,12 @@ fn between(x: u64, below: u64, high: u64) -> u64
     ensures { result ≡ modulo (limit (neg_ℤ (pos below)) (pos high) (signed_of x)) 64 }
 {
     if x < 9223372036854775808 {
-        if x <= high { x } else { high }
+        u64::min(x, high)
     } else {
         if 18446744073709551615 - x < below {
             x
         } else {
-            std::num::wrapping_sub_u64(0, below)
+            below.wrapping_neg()
         }
     }
 }

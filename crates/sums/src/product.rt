@@ -11,14 +11,8 @@ fn magnitude(x: u64) -> u64
     if x < 9223372036854775808 {
         x
     } else {
-        std::num::wrapping_sub_u64(0, x)
+        x.wrapping_neg()
     }
-}
-
-fn least(x: u64, y: u64) -> u64
-    ensures { result ≡ min x y }
-{
-    if x < y { x } else { y }
 }
 
 // x times y, no further from 0 than most. The remainders tell the compiler that one multiplication of 32 bits is enough.
@@ -28,10 +22,10 @@ pub fn product(x: u64, y: u64, most: u64) -> u64
 {
     let m = magnitude(x) % 4294967296;
     let n = magnitude(y) % 4294967296;
-    let p = least(m * n, most);
+    let p = u64::min(m * n, most);
     if x >> 63 == y >> 63 {
         p
     } else {
-        std::num::wrapping_sub_u64(0, p)
+        p.wrapping_neg()
     }
 }

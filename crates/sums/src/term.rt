@@ -6,11 +6,7 @@ ghost use Rattle.machine.specs.Meaning.{negated, scaled};
 fn opposite(x: u64, negate: u8) -> u64
     ensures { result ≡ modulo (negated negate (pos x)) 64 }
 {
-    if negate == 1 {
-        std::num::wrapping_sub_u64(0, x)
-    } else {
-        x
-    }
+    if negate == 1 { x.wrapping_neg() } else { x }
 }
 
 pub fn term(x: u64, negate: u8, shift: u8) -> u64

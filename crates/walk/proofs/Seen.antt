@@ -1,8 +1,8 @@
 -- What a walk has seen of the code: the bytes before the place where it stopped, and all of them if nothing was refused.
+use Rattle.std.proofs.Common.{None}
 use mathlib.Core.Path.{◌≡◌, refl, sym, ap, ◌∙◌}
 use mathlib.Core.Bool.{Bool, true, false, cond}
 use mathlib.Core.List.{List, [], ◌∷◌, ◌++◌}
-use mathlib.Core.Option.{none}
 use Prim.Native.Nat.{ℕ, zero, suc, ◌+◌, ◌≤◌}
 use native.Mathlib.Nat.{add-zero, zero-add, le_refl, not-suc-le-zero}
 use native.Mathlib.Omega.{arith}
@@ -21,7 +21,7 @@ use Rattle.walk.proofs.Steps.{step-all, shorter}
 pub record Seen (k at : ℕ) (s : List ℕ) (w : Walk) : Type 0 where
   pub before : shown w ≡ take (length (shown w)) s
   pub place : stop w ≡ at + length (shown w)
-  pub whole : length s ≤ k → refusal_of w ≡ none → shown w ≡ s
+  pub whole : length s ≤ k → refusal_of w ≡ None → shown w ≡ s
 
 seen-refused : (k at : ℕ) (s : List ℕ) (r : Refusal) → Seen k at s (refused at r)
 seen-refused k at s r =
@@ -68,7 +68,7 @@ seen code = one (leb (length code) limit)
     one false = seen-refused (length code) 0 code (refusal 1)
 
 -- A walk that reaches the end has shown every byte.
-pub shown-whole : (a : List ℕ) → refusal_of (walk_of a) ≡ none → shown (walk_of a) ≡ a
+pub shown-whole : (a : List ℕ) → refusal_of (walk_of a) ≡ None → shown (walk_of a) ≡ a
 shown-whole a e = (seen a).whole (le_refl (length a)) e
 
 -- The bytes shown are those before the address where the walk stops.

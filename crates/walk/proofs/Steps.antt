@@ -1,5 +1,6 @@
 -- A walk, one step at a time: at each address an instruction with the walk after it, or the refusal; and as many steps as there are
 -- bytes are enough.
+use Rattle.std.proofs.Common.{Ok, Err}
 use mathlib.Core.Path.{◌≡◌, refl, ap, ◌∙◌}
 use mathlib.Core.List.{List, [], ◌∷◌}
 use Prim.Native.Nat.{ℕ, zero, suc, ◌+◌, ◌≤◌, ◌<◌}
@@ -10,7 +11,7 @@ use lib.Seq.{drop-drop}
 use Rattle.isa.proofs.Found.{found-length}
 use Rattle.isa.specs.Decode.{decode_of}
 use Rattle.isa.specs.declared.answer.Refusal.{Refusal}
-use Rattle.isa.specs.declared.answer.Decoded.{Decoded}
+use Rattle.isa.specs.Answer.{Decoded}
 use Rattle.isa.specs.declared.instruction.Instruction.{Instruction}
 use Rattle.walk.specs.Walk.{Walk, refused, stepped, on_decoded, walk_from}
 
@@ -19,19 +20,19 @@ abbrev pub step_by : Decoded → (ℕ → List ℕ → Walk) → ℕ → List �
 step_by d next at s = on_decoded d (λ i n. stepped at (take n s) i (next (at + n) (drop n s))) (λ r. refused at r)
 
 pub step-all : (P : Walk → Type 0) (d : Decoded) (next : ℕ → List ℕ → Walk) (at : ℕ) (s : List ℕ)
-    → ((i : Instruction) (n : ℕ) → d ≡ Decoded.Found i n → P (stepped at (take n s) i (next (at + n) (drop n s))))
+    → ((i : Instruction) (n : ℕ) → d ≡ Ok (i, n) → P (stepped at (take n s) i (next (at + n) (drop n s))))
     → ((r : Refusal) → P (refused at r))
     → P (step_by d next at s)
-step-all P (Decoded.Found i n) next at s h k = h i n refl
-step-all P (Decoded.Refused r) next at s h k = k r
+step-all P (Ok (i, n)) next at s h k = h i n refl
+step-all P (Err r) next at s h k = k r
 
 step_same : (d : Decoded) (f g : ℕ → List ℕ → Walk) (at : ℕ) (s : List ℕ)
-    → ((i : Instruction) (n : ℕ) → d ≡ Decoded.Found i n → f (at + n) (drop n s) ≡ g (at + n) (drop n s))
+    → ((i : Instruction) (n : ℕ) → d ≡ Ok (i, n) → f (at + n) (drop n s) ≡ g (at + n) (drop n s))
     → step_by d f at s ≡ step_by d g at s
-step_same (Decoded.Found i n) f g at s h = ap (λ (w : Walk). stepped at (take n s) i w) (h i n refl)
-step_same (Decoded.Refused x) f g at s h = refl
+step_same (Ok (i, n)) f g at s h = ap (λ (w : Walk). stepped at (take n s) i w) (h i n refl)
+step_same (Err x) f g at s h = refl
 
-pub shorter : (b : ℕ) (s : List ℕ) (i : Instruction) (n k : ℕ) → decode_of (b ∷ s) ≡ Decoded.Found i n → length s ≤ k
+pub shorter : (b : ℕ) (s : List ℕ) (i : Instruction) (n k : ℕ) → decode_of (b ∷ s) ≡ Ok (i, n) → length s ≤ k
     → length (drop n (b ∷ s)) ≤ k
 shorter b s i n k e h = let f = found-length (b ∷ s) i n e in rw length-drop (omega arith)
 

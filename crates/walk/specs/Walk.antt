@@ -1,11 +1,10 @@
 -- A walk through a kernel: one instruction after the other from address 0, to the end of the code or to the first refusal.
 -- Follows "The lister" of the statement of what to build.
-use Rattle.std.specs.Prelude.{ℕ, zero, suc, ◌+◌, cond, List, [], ◌∷◌, ◌++◌, leb, length, take, drop}
-use Rattle.std.proofs.Math.Option.{Option, none, some}
+use Rattle.std.specs.Prelude.{ℕ, zero, suc, ◌+◌, cond, List, [], ◌∷◌, ◌++◌, leb, length, take, drop, Option, Some, None, Ok, Err}
 use Rattle.isa.specs.Decode.{decode_of}
 use Rattle.isa.specs.Refusal.{refusal}
 use Rattle.isa.specs.declared.answer.Refusal.{Refusal}
-use Rattle.isa.specs.declared.answer.Decoded.{Decoded}
+use Rattle.isa.specs.Answer.{Decoded}
 use Rattle.isa.specs.declared.instruction.Instruction.{Instruction}
 
 pub data Walk : Type 0 where
@@ -17,8 +16,8 @@ pub data Walk : Type 0 where
   stepped : ℕ → List ℕ → Instruction → Walk → Walk
 
 abbrev pub on_decoded : Decoded → (Instruction → ℕ → Walk) → (Refusal → Walk) → Walk
-on_decoded (Decoded.Found i n) go stop = go i n
-on_decoded (Decoded.Refused r) go stop = stop r
+on_decoded (Ok (i, n)) go stop = go i n
+on_decoded (Err r) go stop = stop r
 
 -- the walk from an address, where the code that is left is s. The first number bounds the steps; an instruction has at least one
 -- byte, so as many steps as there are bytes are enough
@@ -39,7 +38,7 @@ walk_of code = cond (leb (length code) limit) (walk_from (length code) 0 code) (
 
 -- what stands at an address of the code; where the code is too long, a refusal
 abbrev pub stands_at : List ℕ → ℕ → Decoded
-stands_at code at = cond (leb (length code) limit) (decode_of (drop at code)) (Decoded.Refused (refusal 1))
+stands_at code at = cond (leb (length code) limit) (decode_of (drop at code)) (Err (refusal 1))
 
 -- ---- what a walk has seen
 
@@ -56,6 +55,6 @@ stop (refused at r) = at
 stop (stepped at bytes i w) = stop w
 
 abbrev pub refusal_of : Walk → Option Refusal
-refusal_of (ended at) = none
-refusal_of (refused at r) = some r
+refusal_of (ended at) = None
+refusal_of (refused at r) = Some r
 refusal_of (stepped at bytes i w) = refusal_of w

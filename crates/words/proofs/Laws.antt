@@ -1,12 +1,17 @@
 -- Laws of words and the bytes that spell them, and the steps of filling the one from the other.
-use mathlib.Core.Path.{◌≡◌, refl, ap, ap₂, ◌∙◌}
+use mathlib.Core.Path.{◌≡◌, refl, sym, ap, ap₂, ◌∙◌}
 use mathlib.Core.List.{List, [], ◌∷◌, ◌++◌, append-nil}
 use Prim.Native.Nat.{ℕ, zero, suc, ◌+◌, ◌*◌, ◌/◌, ◌^◌, ◌≤◌, ◌<◌}
 use native.Mathlib.Omega.{arith}
-use lib.ListN.{length, get_or, drop, set, drop_of_length-le, length-append}
-use lib.Seq.{sets, sets-eq, drop-cons}
-use Rattle.bits.specs.Word.{le, bytes_of}
-use Rattle.bits.proofs.Laws.{Bytes, bytes_le, le_bytes}
+use mir.Syntax.{w32}
+use lib.ListN.{length, get_or, take, drop, drop_of_length-le, length-append, length-drop}
+use lib.Seq.{sets, sets-eq, drop-drop}
+use Rattle.std.specs.Int.{to_le_bytes, from_le_bytes}
+use Rattle.std.specs.Simd.{first_chunks}
+use Rattle.std.proofs.lemmas.List.{drop_more}
+use Rattle.bits.specs.Word.{bytes_of}
+use Rattle.bits.proofs.Pieces.{after}
+use Rattle.bits.proofs.Laws.{Bytes, bytes_le, le_bytes, bytes_of_4}
 use Rattle.words.specs.Spelling.{words_of, bytes_for}
 
 pub length-words : (s : List ℕ) → length (words_of s) ≡ length s / 4
@@ -43,39 +48,42 @@ pub words-bytes : (words : List ℕ) → ((k : ℕ) → get_or words k 0 < 2 ^ 3
 words-bytes [] h = refl
 words-bytes (w ∷ words) h = ap₂ (λ (x : ℕ) (s : List ℕ). x ∷ s) (le_bytes 4 w (h 0)) (words-bytes words (λ k. h (suc k)))
 
--- past the end of a list stand zeros
-pub all_fit : (words : List ℕ) (i : ℕ) → length words ≤ i → ((k : ℕ) → k < i → get_or words k 0 < 2 ^ 32)
-    → (k : ℕ) → get_or words k 0 < 2 ^ 32
-all_fit [] i h f k = omega arith
-all_fit (w ∷ words) zero h f k = absurd (omega arith)
-all_fit (w ∷ words) (suc i) h f zero = f 0 (omega arith)
-all_fit (w ∷ words) (suc i) h f (suc k) = all_fit words i (omega arith) (λ j g. f (suc j) (omega arith)) k
-
 -- ---- one step of filling
 
--- one element more
-next : (s : List ℕ) (k j : ℕ) → j ≡ k + 1 → k < length s → drop k s ≡ get_or s k 0 ∷ drop j s
-next s k j e h = let f : j ≡ suc k = omega arith in rw f (drop-cons s k 0 h)
+-- four bytes spell a word, as the library reads it
+spelled_word : (s : List ℕ) → 4 ≤ length s → words_of s ≡ from_le_bytes w32 (take 4 s) ∷ words_of (drop 4 s)
+spelled_word [] h = absurd (omega arith)
+spelled_word (a ∷ []) h = absurd (omega arith)
+spelled_word (a ∷ b ∷ []) h = absurd (omega arith)
+spelled_word (a ∷ b ∷ c ∷ []) h = absurd (omega arith)
+spelled_word (a ∷ b ∷ c ∷ d ∷ s) h = ap (λ (w : ℕ). w ∷ words_of s) (omega arith)
 
--- four bytes more spell one word more
-pub word_next : (s : List ℕ) (k j : ℕ) → j ≡ k + 4 → k + 3 < length s
-    → words_of (drop k s) ≡ le (get_or s k 0 ∷ get_or s (k + 1) 0 ∷ get_or s (k + 2) 0 ∷ get_or s (k + 3) 0 ∷ []) ∷ words_of (drop j s)
-word_next s k j e h =
-    let a = next s k (k + 1) refl (omega arith) in
-    let b = next s (k + 1) (k + 2) (omega arith) (omega arith) in
-    let c = next s (k + 2) (k + 3) (omega arith) (omega arith) in
-    let d = next s (k + 3) j (omega arith) (omega arith) in
-    rw (a, b, c, d)
+-- the chunk at a place of as many as there are
+chunk_at : (s : List ℕ) (k i : ℕ) → i < k → get_or (first_chunks 4 k s) i [] ≡ take 4 (drop (4 * i) s)
+chunk_at s zero i h = absurd (omega arith)
+chunk_at s (suc k) zero h = refl
+chunk_at s (suc k) (suc i) h =
+    let e : 4 + 4 * i ≡ 4 * suc i = omega arith in
+    chunk_at (drop 4 s) k i (omega arith) ∙ ap (take 4) (drop-drop (4 * i) 4 s) ∙ ap (λ (n : ℕ). take 4 (drop n s)) e
 
-pub bytes_next : (words : List ℕ) (i : ℕ) → i < length words → bytes_for (drop i words) ≡ bytes_of 4 (get_or words i 0) ++ bytes_for (drop (i + 1) words)
-bytes_next words i h = rw (next words i (i + 1) refl h)
+-- four bytes more, of the chunks c, spell the word w more
+pub word_next : (s : List ℕ) (c : List (List ℕ)) (k i w : ℕ) → i < k → 4 * k ≡ length s → c ≡ first_chunks 4 k s → w ≡ from_le_bytes w32 (get_or c i [])
+    → words_of (drop (4 * i) s) ≡ w ∷ words_of (drop (4 * (i + 1)) s)
+word_next s c k i w h e g p =
+    let l : 4 ≤ length (drop (4 * i) s) = omega (arith, length-drop (4 * i) s) in
+    let f : 4 * i + 4 ≡ 4 * (i + 1) = omega arith in
+    let q : w ≡ from_le_bytes w32 (take 4 (drop (4 * i) s)) = p ∙ ap (λ (x : List (List ℕ)). from_le_bytes w32 (get_or x i [])) g ∙ ap (from_le_bytes w32) (chunk_at s k i h) in
+    rw q (spelled_word (drop (4 * i) s) l
+    ∙ ap (λ (t : List ℕ). from_le_bytes w32 (take 4 (drop (4 * i) s)) ∷ words_of t) (drop-drop 4 (4 * i) s ∙ ap (λ (n : ℕ). drop n s) f))
 
-pub four_set : (t : List ℕ) (k a b c d : ℕ) → set (set (set (set t k a) (k + 1) b) (k + 2) c) (k + 3) d ≡ sets t k (a ∷ b ∷ c ∷ d ∷ [])
-four_set t k a b c d =
-    let e : k + 1 ≡ suc k = omega arith in
-    let f : k + 2 ≡ suc (suc k) = omega arith in
-    let g : k + 3 ≡ suc (suc (suc k)) = omega arith in
-    rw (e, f, g)
+-- the bytes p of one word more, put into t
+pub bytes_next : (words p t : List ℕ) (i : ℕ) → i < length words → p ≡ to_le_bytes w32 (get_or words i 0)
+    → sets (sets t (4 * i) p) (4 * (i + 1)) (bytes_for (drop (i + 1) words)) ≡ sets t (4 * i) (bytes_for (drop i words))
+bytes_next words p t i h e =
+    let q : p ≡ bytes_of 4 (get_or words i 0) = e ∙ bytes_of_4 (get_or words i 0) in
+    let n : 4 * (i + 1) ≡ 4 * i + length p = rw q (omega arith) in
+    after p (bytes_for (drop (i + 1) words)) (bytes_for (drop i words)) t (sets t (4 * i) p) (4 * i) (4 * (i + 1)) refl n
+    (rw (drop_more words i 0 h) (ap (λ (b : List ℕ). b ++ bytes_for (drop (i + 1) words)) (sym q)))
 
 -- what fills all is all
 pub filled : (t p : List ℕ) → length t ≡ length p → sets t 0 p ≡ p

@@ -1,6 +1,6 @@
 // The words of the moves: mov16, mov32 and get_sr. Kept bits, the fixed bits of the table, and each field at its bits, in the order of
 // the diagram.
-#![tactic(auto)]
+#![tactic(auto, unfolding(isa::specs::Rows::rows, isa::specs::Parts::parts_of, encoding::specs::Write::word_for, encoding::specs::Write::fields_for))]
 
 ghost use Rattle.std.specs.Prelude.{◌≡◌};
 ghost use Rattle.encoding.specs.Write.{word_for};
@@ -10,6 +10,7 @@ use isa::instruction::Instruction;
 use isa::operand::Dst;
 use rows::value_at;
 
+// Beside word_mov32: each reads like its own diagram; one for both would take the bit numbers of the diagram as arguments.
 pub fn word_mov16(d: Dst, imm16: u16, l: u8, kept: u64) -> u64
     ensures { result ≡ word_for (Instruction.Mov16 d imm16 l kept) }
 {

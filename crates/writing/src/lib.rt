@@ -5,10 +5,13 @@ ghost use Rattle.std.specs.Prelude.{◌≡◌};
 ghost use Rattle.encoding.specs.Write.{word_for};
 
 use isa::instruction::Instruction;
+use isa::parts::{Signs, Truth};
+use rows::value_at;
 use writedata::{word_bitfield, word_bitop, word_iadd, word_imadd, word_scan, word_shift};
 use writemasks::{word_compare, word_jump, word_pop_exec};
 use writemoves::{word_get_sr, word_mov16, word_mov32};
 
+#[tactic(auto, unfolding(isa::specs::Rows::rows, isa::specs::Parts::parts_of, encoding::specs::Write::word_for, encoding::specs::Write::fields_for))]
 pub fn word_for(i: Instruction) -> u64
     ensures { result ≡ word_for i }
 {
@@ -20,32 +23,48 @@ pub fn word_for(i: Instruction) -> u64
             operands,
             saturate,
             negate,
-            a_signed,
-            b_signed,
+            a_signed: sa,
+            b_signed: sb,
             shift,
             kept,
-        } => { word_iadd(operands, saturate, negate, a_signed, b_signed, shift, kept) }
+        } => {
+            let signs = Signs {
+                saturate,
+                negate,
+                sa,
+                sb,
+                sc: 0,
+                shift,
+            };
+            word_iadd(operands, signs, kept)
+        }
         Instruction::Imadd {
             operands,
             saturate,
             negate,
-            a_signed,
-            b_signed,
-            c_signed,
+            a_signed: sa,
+            b_signed: sb,
+            c_signed: sc,
             shift,
             kept,
         } => {
-            word_imadd(
-                operands, saturate, negate, a_signed, b_signed, c_signed, shift, kept,
-            )
+            let signs = Signs {
+                saturate,
+                negate,
+                sa,
+                sb,
+                sc,
+                shift,
+            };
+            word_imadd(operands, signs, kept)
         }
-        Instruction::Bfi(x) => word_bitfield(5, x),
-        Instruction::Bfeil(x) => word_bitfield(6, x),
-        Instruction::Extr(x) => word_bitfield(7, x),
-        Instruction::Shlhi(x) => word_bitfield(8, x),
-        Instruction::Shrhi(x) => word_bitfield(9, x),
-        Instruction::Asr(x) => word_shift(10, x),
-        Instruction::Asrh(x) => word_shift(11, x),
+        Instruction::Bfi(x) => word_bitfield(value_at(5), x),
+        Instruction::Bfeil(x) => word_bitfield(value_at(6), x),
+        Instruction::Extr(x) => word_bitfield(value_at(7), x),
+        Instruction::Shlhi(x) => word_bitfield(value_at(8), x),
+        Instruction::Shrhi(x) => word_bitfield(value_at(9), x),
+        Instruction::Asr(x) => word_shift(value_at(10), x),
+        Instruction::Asrh(x) => word_shift(value_at(11), x),
         Instruction::Bitop {
             operands,
             tt0,
@@ -53,15 +72,18 @@ pub fn word_for(i: Instruction) -> u64
             tt2,
             tt3,
             kept,
-        } => word_bitop(operands, tt0, tt1, tt2, tt3, kept),
-        Instruction::Bitrev(x) => word_scan(13, x),
-        Instruction::Popcount(x) => word_scan(14, x),
-        Instruction::Ffs(x) => word_scan(15, x),
-        Instruction::JmpExecAny { off } => word_jump(16, off),
-        Instruction::JmpExecNone { off } => word_jump(17, off),
+        } => {
+            let truth = Truth { tt0, tt1, tt2, tt3 };
+            word_bitop(operands, truth, kept)
+        }
+        Instruction::Bitrev(x) => word_scan(value_at(13), x),
+        Instruction::Popcount(x) => word_scan(value_at(14), x),
+        Instruction::Ffs(x) => word_scan(value_at(15), x),
+        Instruction::JmpExecAny { off } => word_jump(value_at(16), off),
+        Instruction::JmpExecNone { off } => word_jump(value_at(17), off),
         Instruction::PopExec { hint, n, kept } => word_pop_exec(hint, n, kept),
-        Instruction::IfIcmp(x) => word_compare(19, x),
-        Instruction::WhileIcmp(x) => word_compare(20, x),
-        Instruction::ElseIcmp(x) => word_compare(21, x),
+        Instruction::IfIcmp(x) => word_compare(value_at(19), x),
+        Instruction::WhileIcmp(x) => word_compare(value_at(20), x),
+        Instruction::ElseIcmp(x) => word_compare(value_at(21), x),
     }
 }

@@ -1,7 +1,7 @@
 -- A text of seventeen bytes has room for every line and its line feed.
-use Rattle.std.proofs.Common.{◌≡◌, ℕ, ◌+◌, ◌≤◌, ◌<◌, List, [], ◌∷◌, ◌++◌, length, take, set, arith, sym, ap, ◌∙◌, length-append, length-set, length-take-le}
+use Rattle.std.proofs.Common.{◌≡◌, ℕ, ◌+◌, ◌≤◌, ◌<◌, List, [], ◌∷◌, ◌++◌, length, take, set, arith, sym, ap, ◌∙◌, length-append, length-set, length-take-le, Option, Some, refl}
 use lib.Seq.{sets-eq, take_at}
-use Rattle.comparison.specs.Compare.{compare_of}
+use Rattle.comparison.specs.declared.Comparison.{Comparison}
 use Rattle.comparison.specs.AnswerLine.{line_of, written_of, line_left}
 use Rattle.compared.proofs.Lines.{with-room}
 use Rattle.comparer.proofs.compare_whole.Goals as goal
@@ -14,27 +14,36 @@ fed t n h =
     ap (take (n + 1)) (sets-eq (10 ∷ []) t n (omega arith)) ∙ take_at (take n t ++ (10 ∷ [])) _ (n + 1) a
 
 -- what the call leaves in a text of seventeen bytes: at most sixteen of them are the line
-room : (first second old new : List ℕ) (n : ℕ) → 17 ≡ length old
-    → (n ≡ written_of (line_of (compare_of first second)) (length old)) × (new ≡ line_left (line_of (compare_of first second)) old)
-    → (n ≤ 16) × (length new ≡ 17) × (take n new ≡ line_of (compare_of first second))
-room first second old new n h e =
-    let w = with-room (compare_of first second) old new n (omega arith) e.0 e.1 in
-    (w.0, w.1 ∙ sym h, w.2)
+room : (c : Comparison) (old new : List ℕ) (o : Option ℕ) (n : ℕ) → 17 ≡ length old
+    → (o ≡ written_of (line_of c) (length old)) × (new ≡ line_left (line_of c) old) → o ≡ Some n
+    → (n ≤ 16) × (length new ≡ 17) × (take n new ≡ line_of c)
+room c old new o n h e g =
+    let w = with-room c old new o (omega arith) e.0 e.1 in
+    let m : n ≡ length (line_of c) = cc in
+    (omega (arith, w.1), w.2 ∙ sym h, rw m w.3)
+
+pub unwrap-n-requires : goal.unwrap-n-requires
+unwrap-n-requires c =
+    let l = c.compare_line in
+    rw (with-room _ c.args.text.now l.new.text l.result (omega arith) l.ensures.0 l.ensures.1).0 refl
 
 pub bounds-text-n : goal.bounds-text-n
 bounds-text-n c =
-    let l = c.compare_line-n in
-    omega (arith, room c.args.first.now c.args.second.now c.args.text.now l.new.text l.result c.requires l.ensures)
+    let l = c.compare_line in
+    let r = room _ c.args.text.now l.new.text l.result c.unwrap-n.result c.requires l.ensures c.unwrap-n.ensures in
+    omega (arith, r)
 
 pub returns-clause-prefix_len : goal.returns-clause-prefix_len
 returns-clause-prefix_len c =
-    let l = c.compare_line-n in
-    let r = room c.args.first.now c.args.second.now c.args.text.now l.new.text l.result c.requires l.ensures in
-    let h : l.result + 1 ≤ length (set l.new.text l.result 10) = omega (arith, length-set l.new.text l.result 10) in
-    (h, sym (length-take-le (l.result + 1) (set l.new.text l.result 10) h))
+    let l = c.compare_line in
+    let n = c.unwrap-n.result in
+    let r = room _ c.args.text.now l.new.text l.result n c.requires l.ensures c.unwrap-n.ensures in
+    let h : n + 1 ≤ length (set l.new.text n 10) = omega (arith, length-set l.new.text n 10) in
+    (h, sym (length-take-le (n + 1) (set l.new.text n 10) h))
 
 pub returns-clause-text_after : goal.returns-clause-text_after
 returns-clause-text_after c =
-    let l = c.compare_line-n in
-    let r = room c.args.first.now c.args.second.now c.args.text.now l.new.text l.result c.requires l.ensures in
-    fed l.new.text l.result (omega arith) ∙ ap (λ (x : List ℕ). x ++ (10 ∷ [])) r.2
+    let l = c.compare_line in
+    let n = c.unwrap-n.result in
+    let r = room _ c.args.text.now l.new.text l.result n c.requires l.ensures c.unwrap-n.ensures in
+    fed l.new.text n (omega arith) ∙ ap (λ (x : List ℕ). x ++ (10 ∷ [])) r.2

@@ -1,24 +1,5 @@
-use mathlib.Core.Path.{◌∙◌}
-use Rattle.finding.proofs.Found.{within, word-lent}
-use Rattle.decode.proofs.Decoding.{decoded, decoded-at}
-use native.Mathlib.Omega.{arith}
+use Rattle.decode.proofs.Decoding.{by_diagrams}
 use Rattle.decode.proofs.decode.Goals as goal
 
-pub find_first-requires : goal.find_first-requires
-find_first-requires c = (
-  omega (arith, c.held.ensures),
-  word-lent c.args.code.now (λ j. (c.type_inv.code j).fits) _ _ c.word-w.ensures c.held.ensures,
-)
-
-pub returns-in-At : goal.returns-in-At
-returns-in-At c =
-    c.decoded.ensures
-    ∙ decoded-at c.args.code.now (λ j. (c.type_inv.code j).fits) _ _ _ c.word-w.ensures
-    c.held.ensures c.find_first.ensures.0 _ _ _ _ c.in-At.is
-    (within _ _ _ c.find_first.ensures.1 c.in-At.is).1 c.ones_of.ensures c.read-r.ensures
-
-pub returns-in-Refused : goal.returns-in-Refused
-returns-in-Refused c =
-    let m = c in
-    decoded m.args.code.now (λ j. (m.type_inv.code j).fits) _ _ _ m.word-w.ensures
-    m.held.ensures m.find_first.ensures.0 _ c.in-Refused.is
+pub returns : goal.returns
+returns c = by_diagrams c.args.code.now _ c.decode_with.ensures

@@ -6,6 +6,6 @@ returns c =
     let l = c in
     let n = l in
     let s = n in
-    let e = rw (l.less.ensures, l.mask.ensures, n.amount-s.ensures) at c.up-ones.ensures in
+    let e = rw (l.saturating_sub.ensures, l.mask.ensures, n.amount-s.ensures) at c.up-ones.ensures in
     rw (c.across.ensures, n.amount-s.ensures)
     (shlhi-is s.args.m s.args.a s.args.b s.args.c c.up-ones.result s.ranges.a.fits e)

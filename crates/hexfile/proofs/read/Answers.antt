@@ -2,33 +2,25 @@
 use mathlib.Core.Path.{◌∙◌}
 use native.Mathlib.Omega.{arith}
 use Rattle.hexfile.specs.Read.{read_of}
-use Rattle.hexfile.proofs.Answers.{bad-given, size-given, too_long, no_room, is-kernel, taken_in}
+use Rattle.hexfile.proofs.Answers.{too_long, no_room, is-kernel, taken_in}
 use Rattle.hexfile.proofs.read.Goals as goal
 
 pub returns-then-n-gt-LIMIT : goal.returns-then-n-gt-LIMIT
 returns-then-n-gt-LIMIT c =
-    too_long c.args.out.now (read_of c.args.text.now) c.check.result c.in-Kernel.n c.check.ensures c.in-Kernel.is c.if-n-gt-LIMIT.true
+    too_long c.args.out.now (read_of c.args.text.now) c.check.result c.in_ok-n.n c.check.ensures c.in_ok-n.was c.if-n-gt-LIMIT.true
 
 pub returns-then-out-n : goal.returns-then-out-n
 returns-then-out-n c =
-    no_room c.args.out.now (read_of c.args.text.now) c.check.result c.in-Kernel.n c.check.ensures c.in-Kernel.is c.if-n-gt-LIMIT.false c.if-out-n.true
+    no_room c.args.out.now (read_of c.args.text.now) c.check.result c.in_ok-n.n c.check.ensures c.in_ok-n.was c.if-n-gt-LIMIT.false c.if-out-n.true
 
 pub fill-requires : goal.fill-requires
 fill-requires c =
-    let r = is-kernel c.args.out.now (read_of c.args.text.now) c.check.result c.in-Kernel.n c.check.ensures c.in-Kernel.is in
+    let r = is-kernel c.args.out.now (read_of c.args.text.now) c.check.result c.in_ok-n.n c.check.ensures c.in_ok-n.was in
     (r.0, omega (arith, r.1))
 
-pub returns-else-out-n : goal.returns-else-out-n
-returns-else-out-n c =
+pub returns : goal.returns
+returns c =
     let t =
-    taken_in c.args.out.now (read_of c.args.text.now) c.check.result c.in-Kernel.n c.check.ensures c.in-Kernel.is
+    taken_in c.args.out.now (read_of c.args.text.now) c.check.result c.in_ok-n.n c.check.ensures c.in_ok-n.was
     c.if-n-gt-LIMIT.false c.if-out-n.false in
     (t.0, c.fill.ensures ∙ t.1)
-
-pub returns-in-BadRow : goal.returns-in-BadRow
-returns-in-BadRow c =
-    bad-given c.args.out.now (read_of c.args.text.now) c.check.result c.in-BadRow.row c.in-BadRow.f c.check.ensures c.in-BadRow.is
-
-pub returns-in-BadSize : goal.returns-in-BadSize
-returns-in-BadSize c =
-    size-given c.args.out.now (read_of c.args.text.now) c.check.result c.check.ensures c.in-BadSize.is

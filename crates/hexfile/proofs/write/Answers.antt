@@ -1,4 +1,5 @@
 -- The text is measured first: where it fits it is written at the start, else what stood there is kept.
+use Rattle.std.specs.Prelude.{Some}
 use mathlib.Core.Path.{refl, sym, ap, ◌∙◌}
 use Prim.Native.Nat.{◌≤◌}
 use native.Mathlib.Omega.{arith}
@@ -7,7 +8,6 @@ use borrow.Author.Tests.{le-leb, lt-leb}
 use Rattle.bits.proofs.Pieces.{put_first}
 use Rattle.hexfile.specs.Read.{limit}
 use Rattle.hexwrite.specs.Write.{hex_of}
-use Rattle.hexfile.specs.declared.Writing.{Writing}
 use Rattle.hexwrite.proofs.Written.{length_hex}
 use Rattle.hexfile.proofs.write.Goals as goal
 
@@ -33,6 +33,6 @@ returns c =
     let t = le-leb (length c.args.code.now) limit c.if-code-gt-LIMIT.false in
     let h : length all ≤ length c.args.text.now = omega (arith, length_hex c.args.code.now) in
     let u = le-leb (length all) (length c.args.text.now) h in (
-      rw (t, u) (ap Writing.Text (c.size-n.ensures ∙ sym (length_hex c.args.code.now))),
+      rw (t, u) (ap Some (c.size-n.ensures ∙ sym (length_hex c.args.code.now))),
       rw (t, u) (c.put_rows.ensures ∙ put_first c.args.text.now all (length all) refl h),
     )

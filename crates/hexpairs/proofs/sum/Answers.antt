@@ -1,3 +1,4 @@
+use Rattle.std.specs.Prelude.{Some}
 use mathlib.Core.Path.{◌≡◌, sym, ap, ◌∙◌}
 use mathlib.Core.Bool.{true, false}
 use Prim.Native.Nat.{◌+◌, ◌*◌, ◌-◌, ◌%◌}
@@ -6,26 +7,18 @@ use lib.Dec.{ltb}
 use lib.ListN.{drop}
 use borrow.Author.Tests.{lt-ltb, le-ltb}
 use Rattle.hexpairs.specs.Pairs.{pair_value, pairs, spelled, total}
-use Rattle.hexpairs.proofs.Places.{pairs-more, spelled-more}
+use Rattle.hexpairs.proofs.Places.{pairs-more, spelled-more, byte-some, byte-none}
 use Rattle.hexpairs.proofs.sum.Goals as goal
 
-pub loop-i-init : goal.loop-i-init
-loop-i-init c =
-    let a = c.args in
-    let e : a.at + 2 * 0 ≡ a.at = omega arith in
-    let f : a.n - 0 ≡ a.n = omega arith in
-    (omega arith, omega arith, rw (e, f), rw (e, f) (omega arith))
-
-pub returns-then-b-gt255 : goal.returns-then-b-gt255
-returns-then-b-gt255 c =
+pub returns-in_err-sum : goal.returns-in_err-sum
+returns-in_err-sum c =
     let l = c.loop-i in
     let a = c.args in
     let s = a.text.now in
-    let b = c.pair_at-b.ensures.0 in
-    let z : ltb (pair_value (drop (a.at + 2 * l.i) s)) 256 ≡ false = le-ltb (pair_value (drop (a.at + 2 * l.i) s)) 256 (omega arith) in
-    let p = pairs-more a.at a.n l.i s c.loop-i-test.true in
-    let q : pairs a.n (drop a.at s) ≡ false = sym l.invariant.2 ∙ p ∙ rw z in
-    rw q
+    let v = pair_value (drop (a.at + 2 * l.i) s) in
+    let z : ltb v 256 ≡ false = le-ltb v 256 (byte-none v c.pair_at.result c.pair_at.ensures c.in_err-sum.was) in
+    let q : pairs a.n (drop a.at s) ≡ false = sym l.invariant.0 ∙ pairs-more a.at a.n l.i s c.loop-i-test.true ∙ rw z in
+    rw q c.from_residual.ensures
 
 pub loop-i-preserved : goal.loop-i-preserved
 loop-i-preserved c =
@@ -33,12 +26,13 @@ loop-i-preserved c =
     let a = c.args in
     let s = a.text.now in
     let h = c.loop-i-test.true in
-    let b = c.pair_at-b.ensures.0 in
-    let z : ltb (pair_value (drop (a.at + 2 * l.i) s)) 256 ≡ true = lt-ltb (pair_value (drop (a.at + 2 * l.i) s)) 256 (omega arith) in
+    let v = pair_value (drop (a.at + 2 * l.i) s) in
+    let b = byte-some v c.in_ok-sum.field-0 c.pair_at.result c.pair_at.ensures c.in_ok-sum.was in
+    let z : ltb v 256 ≡ true = lt-ltb v 256 b.0 in
     let p : pairs (a.n - l.i) (drop (a.at + 2 * l.i) s) ≡ pairs (a.n - (l.i + 1)) (drop (a.at + 2 * (l.i + 1)) s) =
     pairs-more a.at a.n l.i s h ∙ rw z in
     let t = ap total (spelled-more a.at a.n l.i s h) in
-    (omega arith, omega arith, sym p ∙ l.invariant.2, omega arith)
+    (sym p ∙ l.invariant.0, omega (arith, b.1, t, l.invariant.1))
 
 pub returns : goal.returns
 unfolding pairs spelled
@@ -46,6 +40,8 @@ returns c =
     let l = c.loop-i in
     let a = c.args in
     let e : a.n - l.i ≡ 0 = omega arith in
-    let p : pairs a.n (drop a.at a.text.now) ≡ true = sym l.invariant.2 ∙ rw e in
-    let t : (l.s + 0) % 256 ≡ total (spelled a.n (drop a.at a.text.now)) % 256 = rw e at l.invariant.3 in
-    rw p (omega arith)
+    let p : pairs a.n (drop a.at a.text.now) ≡ true = sym l.invariant.0 ∙ rw e in
+    let t : (l.sum + 0) % 256 ≡ total (spelled a.n (drop a.at a.text.now)) % 256 = rw e at l.invariant.1 in
+    let r = total (spelled a.n (drop a.at a.text.now)) % 256 in
+    let u : l.sum ≡ r = omega arith in
+    rw (p, lt-ltb r 256 (omega arith)) (ap Some u)

@@ -1,18 +1,21 @@
 -- No row, a row with characters that are no digits, one with a wrong sum, and one whose numbers decide.
+use Rattle.std.specs.Prelude.{Err, Option, Some, None}
 use mathlib.Core.Path.{◌≡◌, refl, sym, ap, ◌∙◌}
 use mathlib.Core.Bool.{Bool, true, false}
-use mathlib.Core.List.{List}
+use mathlib.Core.List.{List, [], ◌∷◌}
 use mathlib.Core.Logic.{◌⊎◌, inl, inr}
-use Prim.Native.Nat.{ℕ, ◌+◌, ◌*◌, ◌%◌, ◌<◌}
+use Prim.Native.Nat.{ℕ, ◌+◌, ◌*◌, ◌%◌, ◌≤◌, ◌<◌}
 use native.Mathlib.Omega.{arith}
+use lib.Dec.{ltb}
 use lib.ListN.{length, drop, length-drop}
 use lib.Seq.{drop-drop}
-use borrow.Author.Tests.{ne_eqb}
+use borrow.Author.Tests.{ne_eqb, ltb-true, ltb-false}
 use Rattle.hexpairs.specs.Pairs.{pair_value, pairs, spelled, total}
 use Rattle.hexrow.specs.Row.{placed}
-use Rattle.hexpairs.specs.Reads.{end_size, sum_by}
+use Rattle.hexpairs.specs.Reads.{end_size, sum_by, counted as counted_by}
+use Rattle.hexpairs.proofs.Places.{byte-some, byte-none}
+use Rattle.hexrow.proofs.Told.{never, pairs_front}
 use Rattle.hexrow.specs.Reads.{size_by, says_by, told, row_at}
-use Rattle.hexrow.specs.declared.Row.{Row}
 use Rattle.hexrow.specs.declared.Fault.{Fault}
 use Rattle.hexrow.proofs.Rows.{count, body, At, Sized, sized, at-sized, no_row, at_row, told-placed, size_of, end-within}
 use Rattle.hexrow.proofs.row_at.Goals as goal
@@ -35,17 +38,14 @@ module _ (at next size n sum : ℕ) (text : List ℕ) (e : size ≡ size_by (dro
   counted : n ≡ count (drop at text)
   counted = f ∙ ap pair_value (sym (drop-drop 1 at text))
 
-  no-form : size ≡ 0 → Row.Bad Fault.Form ≡ row_at next (drop at text)
-  no-form z = no_row next (drop at text) (λ r. at-sized (drop at text) r (sym e ∙ z))
-
   same-pairs : pairs (n + 5) (drop (at + 1) text) ≡ pairs (count (drop at text) + 5) (drop 1 (drop at text))
   same-pairs = rw (drop-drop 1 at text, f)
 
-  no-digits : sum ≡ 256 → Row.Bad Fault.Form ≡ row_at next (drop at text)
+  no-digits : sum ≡ 256 → Err Fault.Form ≡ row_at next (drop at text)
   unfolding Told
   no-digits z = go (sum_told (n + 5) sum (drop (at + 1) text) g)
     where
-      go : Told (n + 5) sum (drop (at + 1) text) → Row.Bad Fault.Form ≡ row_at next (drop at text)
+      go : Told (n + 5) sum (drop (at + 1) text) → Err Fault.Form ≡ row_at next (drop at text)
       go (inl p) =
           no_row next (drop at text) (λ r. let w = sym r.digits ∙ sym same-pairs ∙ p.1 in let z : ◌≡◌ {A = ℕ} 0 1 = cc in omega arith)
       go (inr p) = let h = p.0 in absurd (omega arith)
@@ -73,18 +73,19 @@ module _ (at next size n sum : ℕ) (text : List ℕ) (e : size ≡ size_by (dro
             rw (drop-drop 1 at text, ← f) p.2,
           )
 
-      wrong-sum : (sum ≡ 0 → ⊥) → Row.Bad Fault.Sum ≡ row_at next (drop at text)
+      wrong-sum : (sum ≡ 0 → ⊥) → Err Fault.Sum ≡ row_at next (drop at text)
       wrong-sum z =
           let b = spelled (count (drop at text) + 5) (drop 1 (drop at text)) in
           let q = ne_eqb (total b % 256) 0 (λ k. z (sym row.1 ∙ k)) in
           rw (at_row (drop at text) row.0 next, q)
 
-      -- places after the colon
-      on : (j : ℕ) → drop j (drop 1 (drop at text)) ≡ drop (at + (1 + j)) text
-      on j = drop-drop j 1 (drop at text) ∙ drop-drop (1 + j) at text
+      first_four : pairs 4 (drop (at + 1) text) ≡ true
+      first_four =
+          let k : count (drop at text) + 5 ≡ 4 + (count (drop at text) + 1) = omega arith in
+          rw (← (drop-drop 1 at text)) (pairs_front 4 (count (drop at text) + 1) (drop 1 (drop at text)) (rw k at row.0.digits))
 
       right_sum : sum ≡ 0
-          → says_by (pair_value (drop (at + 7) text)) (256 * pair_value (drop (at + 3) text) + pair_value (drop (at + 5) text)) n next size
+          → says_by (pair_value (drop 6 (drop (at + 1) text))) (256 * pair_value (drop 2 (drop (at + 1) text)) + pair_value (drop 4 (drop (at + 1) text))) n next size
           ≡ row_at next (drop at text)
       right_sum z =
           let s = drop at text in
@@ -96,55 +97,105 @@ module _ (at next size n sum : ℕ) (text : List ℕ) (e : size ≡ size_by (dro
           let v = told-placed next (body s + end_size (drop (body s) s)) (count s) t refl in
           let w : says_by (pair_value (drop 6 t)) (256 * pair_value (drop 2 t) + pair_value (drop 4 t)) (count s) next
           (body s + end_size (drop (body s) s))
-          ≡ says_by (pair_value (drop (at + 7) text)) (256 * pair_value (drop (at + 3) text) + pair_value (drop (at + 5) text)) n next size =
-          rw (on 2, on 4, on 6, counted, k) in
+          ≡ says_by (pair_value (drop 6 (drop (at + 1) text))) (256 * pair_value (drop 2 (drop (at + 1) text)) + pair_value (drop 4 (drop (at + 1) text))) n next size =
+          rw (← (drop-drop 1 at text), counted, k) in
           sym (u ∙ v ∙ w)
 
-pub returns-then-size-eq0 : goal.returns-then-size-eq0
-returns-then-size-eq0 c =
-    no-form c.args.at c.args.next c.size_at-size.result _ _ c.args.text.now c.size_at-size.ensures refl refl c.if-size-eq0.true
+-- ---- what the functions answered
 
-pub pair_at-count-requires : goal.pair_at-count-requires
-pair_at-count-requires c =
-    let h = within c.args.at c.args.next c.size_at-size.result _ _ c.args.text.now c.size_at-size.ensures refl refl c.if-size-eq0.false in
-    omega arith
+counted-some : (n k : ℕ) (r : Option ℕ) → r ≡ counted_by n → r ≡ Some k → (0 < n) × (n ≡ k)
+counted-some n k r e f = go (ltb 0 n) refl
+  where
+    go : (t : Bool) → ltb 0 n ≡ t → (0 < n) × (n ≡ k)
+    go true g = let h : r ≡ Some n = e ∙ rw g in (ltb-true 0 n g, (cc))
+    go false g = let h : r ≡ None = e ∙ rw g in never (cc)
 
-pub sum-sum-requires : goal.sum-sum-requires
-sum-sum-requires c =
-    let room : c.args.at + (2 * c.pair_at-count.result + 11)
-    < length c.args.text.now = within c.args.at c.args.next c.size_at-size.result c.pair_at-count.result _ c.args.text.now c.size_at-size.ensures c.pair_at-count.ensures.0 refl c.if-size-eq0.false in
-    omega (arith, room)
+counted-none : (n : ℕ) (r : Option ℕ) → r ≡ counted_by n → r ≡ None → n ≡ 0
+counted-none n r e f = go (ltb 0 n) refl
+  where
+    go : (t : Bool) → ltb 0 n ≡ t → n ≡ 0
+    go true g = let h : r ≡ Some n = e ∙ rw g in never (cc)
+    go false g = let h = ltb-false 0 n g in omega arith
 
-pub returns-then-sum-eq256 : goal.returns-then-sum-eq256
-returns-then-sum-eq256 c =
-    no-digits c.args.at c.args.next c.size_at-size.result c.pair_at-count.result c.sum-sum.result c.args.text.now c.size_at-size.ensures c.pair_at-count.ensures.0 c.sum-sum.ensures c.if-sum-eq256.true
+sum_most : (n : ℕ) (s : List ℕ) → 256 ≤ sum_by n s → sum_by n s ≡ 256
+unfolding Told
+sum_most n s h = go (sum_told n (sum_by n s) s refl)
+  where
+    go : Told n (sum_by n s) s → sum_by n s ≡ 256
+    go (inl p) = p.0
+    go (inr p) = let q = p.0 in absurd (omega arith)
 
-pub returns-then-sum-ne0 : goal.returns-then-sum-ne0
-returns-then-sum-ne0 c =
-    wrong-sum c.args.at c.args.next c.size_at-size.result c.pair_at-count.result c.sum-sum.result c.args.text.now c.size_at-size.ensures c.pair_at-count.ensures.0 c.sum-sum.ensures
-    c.if-size-eq0.false c.if-sum-eq256.false c.if-sum-ne0.true
+head_at : (t : List ℕ) → spelled 4 t ≡ pair_value t ∷ pair_value (drop 2 t) ∷ pair_value (drop 4 t) ∷ pair_value (drop 6 t) ∷ []
+unfolding spelled
+head_at t = rw (drop-drop 2 2 t, drop-drop 2 4 t)
+
+pub returns-in_default : goal.returns-in_default
+returns-in_default c =
+    let s = drop c.args.at c.args.text.now in
+    no_row c.args.next s (λ r. at-sized s r (counted-none (size_by s) c.size_at.result c.size_at.ensures c.in_default.is))
 
 pub pair_at-requires : goal.pair_at-requires
 pair_at-requires c =
-    let room : c.args.at + (2 * c.pair_at-count.result + 11)
-    < length c.args.text.now = within c.args.at c.args.next c.size_at-size.result c.pair_at-count.result _ c.args.text.now c.size_at-size.ensures c.pair_at-count.ensures.0 refl c.if-size-eq0.false in
-    omega (arith, room)
+    let a = c.args in
+    let z = counted-some (size_by (drop a.at a.text.now)) c.in-Some.size c.size_at.result c.size_at.ensures c.in-Some.is in
+    let h = within a.at a.next c.in-Some.size (pair_value (drop (a.at + 1) a.text.now)) _ a.text.now (sym z.1) refl refl (λ y. omega (arith, z.0, z.1)) in
+    omega (arith, h)
 
-pub pair_at-requires-2 : goal.pair_at-requires-2
-pair_at-requires-2 c =
-    let room : c.args.at + (2 * c.pair_at-count.result + 11)
-    < length c.args.text.now = within c.args.at c.args.next c.size_at-size.result c.pair_at-count.result _ c.args.text.now c.size_at-size.ensures c.pair_at-count.ensures.0 refl c.if-size-eq0.false in
-    omega (arith, room)
+pub returns-in_default-pair_at : goal.returns-in_default-pair_at
+returns-in_default-pair_at c =
+    let a = c.args in
+    let v = pair_value (drop (a.at + 1) a.text.now) in
+    let z = counted-some (size_by (drop a.at a.text.now)) c.in-Some.size c.size_at.result c.size_at.ensures c.in-Some.is in
+    let k = whole a.at a.next c.in-Some.size v _ a.text.now (sym z.1) refl refl (λ y. omega (arith, z.0, z.1)) in
+    let n = counted a.at a.next c.in-Some.size v _ a.text.now (sym z.1) refl refl in
+    absurd (omega (arith, k.few, n, byte-none v c.pair_at.result c.pair_at.ensures c.in_default-pair_at.is))
 
-pub pair_at-requires-3 : goal.pair_at-requires-3
-pair_at-requires-3 c =
-    let room : c.args.at + (2 * c.pair_at-count.result + 11)
-    < length c.args.text.now = within c.args.at c.args.next c.size_at-size.result c.pair_at-count.result _ c.args.text.now c.size_at-size.ensures c.pair_at-count.ensures.0 refl c.if-size-eq0.false in
-    omega (arith, room)
+pub sum-requires : goal.sum-requires
+sum-requires c =
+    let a = c.args in
+    let z = counted-some (size_by (drop a.at a.text.now)) c.in-Some.size c.size_at.result c.size_at.ensures c.in-Some.is in
+    let n = byte-some (pair_value (drop (a.at + 1) a.text.now)) c.in-Some-pair_at.count c.pair_at.result c.pair_at.ensures c.in-Some-pair_at.is in
+    let h = within a.at a.next c.in-Some.size c.in-Some-pair_at.count _ a.text.now (sym z.1) (sym n.1) refl (λ y. omega (arith, z.0, z.1)) in
+    omega (arith, h)
+
+pub returns-in_default-sum : goal.returns-in_default-sum
+returns-in_default-sum c =
+    let a = c.args in
+    let z = counted-some (size_by (drop a.at a.text.now)) c.in-Some.size c.size_at.result c.size_at.ensures c.in-Some.is in
+    let n = byte-some (pair_value (drop (a.at + 1) a.text.now)) c.in-Some-pair_at.count c.pair_at.result c.pair_at.ensures c.in-Some-pair_at.is in
+    let t = drop (a.at + 1) a.text.now in
+    let m = sum_most (c.in-Some-pair_at.count + 5) t (byte-none (sum_by (c.in-Some-pair_at.count + 5) t) c.sum.result c.sum.ensures c.in_default-sum.is) in
+    no-digits a.at a.next c.in-Some.size c.in-Some-pair_at.count (sum_by (c.in-Some-pair_at.count + 5) t) a.text.now (sym z.1) (sym n.1) refl m
+
+pub returns-then-sum-ne0 : goal.returns-then-sum-ne0
+returns-then-sum-ne0 c =
+    let a = c.args in
+    let z = counted-some (size_by (drop a.at a.text.now)) c.in-Some.size c.size_at.result c.size_at.ensures c.in-Some.is in
+    let n = byte-some (pair_value (drop (a.at + 1) a.text.now)) c.in-Some-pair_at.count c.pair_at.result c.pair_at.ensures c.in-Some-pair_at.is in
+    let m = byte-some (sum_by (c.in-Some-pair_at.count + 5) (drop (a.at + 1) a.text.now)) c.in-Some-sum.sum c.sum.result c.sum.ensures c.in-Some-sum.is in
+    wrong-sum a.at a.next c.in-Some.size c.in-Some-pair_at.count c.in-Some-sum.sum a.text.now (sym z.1) (sym n.1) (sym m.1)
+    (λ y. omega (arith, z.0, z.1)) (λ y. omega (arith, m.0, m.1)) c.if-sum-ne0.true
+
+pub put-requires : goal.put-requires
+put-requires c =
+    let a = c.args in
+    let z = counted-some (size_by (drop a.at a.text.now)) c.in-Some.size c.size_at.result c.size_at.ensures c.in-Some.is in
+    let n = byte-some (pair_value (drop (a.at + 1) a.text.now)) c.in-Some-pair_at.count c.pair_at.result c.pair_at.ensures c.in-Some-pair_at.is in
+    let m = byte-some (sum_by (c.in-Some-pair_at.count + 5) (drop (a.at + 1) a.text.now)) c.in-Some-sum.sum c.sum.result c.sum.ensures c.in-Some-sum.is in
+    let h = within a.at a.next c.in-Some.size c.in-Some-pair_at.count _ a.text.now (sym z.1) (sym n.1) refl (λ y. omega (arith, z.0, z.1)) in (
+      omega arith,
+      omega (arith, h),
+      first_four a.at a.next c.in-Some.size c.in-Some-pair_at.count c.in-Some-sum.sum a.text.now (sym z.1) (sym n.1) (sym m.1)
+          (λ y. omega (arith, z.0, z.1)) (λ y. omega (arith, m.0, m.1)),
+    )
 
 pub returns : goal.returns
 returns c =
+    let a = c.args in
+    let z = counted-some (size_by (drop a.at a.text.now)) c.in-Some.size c.size_at.result c.size_at.ensures c.in-Some.is in
+    let n = byte-some (pair_value (drop (a.at + 1) a.text.now)) c.in-Some-pair_at.count c.pair_at.result c.pair_at.ensures c.in-Some-pair_at.is in
+    let m = byte-some (sum_by (c.in-Some-pair_at.count + 5) (drop (a.at + 1) a.text.now)) c.in-Some-sum.sum c.sum.result c.sum.ensures c.in-Some-sum.is in
     c.says.ensures
-    ∙ rw (c.pair_at-3.ensures.0, c.pair_at.ensures.0, c.pair_at-2.ensures.0)
-    (right_sum c.args.at c.args.next c.size_at-size.result c.pair_at-count.result c.sum-sum.result c.args.text.now c.size_at-size.ensures c.pair_at-count.ensures.0 c.sum-sum.ensures
-    c.if-size-eq0.false c.if-sum-eq256.false c.if-sum-ne0.false)
+    ∙ rw (c.put.ensures, head_at (drop (a.at + 1) a.text.now))
+    (right_sum a.at a.next c.in-Some.size c.in-Some-pair_at.count c.in-Some-sum.sum a.text.now (sym z.1) (sym n.1) (sym m.1)
+    (λ y. omega (arith, z.0, z.1)) (λ y. omega (arith, m.0, m.1)) c.if-sum-ne0.false)

@@ -1,4 +1,5 @@
 -- The listing is measured first: where it fits it is written at the start of the text, else the text is kept.
+use Rattle.std.proofs.Common.{Ok}
 use mathlib.Core.Path.{ap, ◌∙◌}
 use mathlib.Core.List.{◌++◌}
 use Prim.Native.Nat.{ℕ, ◌≤◌}
@@ -7,7 +8,6 @@ use native.Mathlib.Omega.{arith}
 use lib.ListN.{length, drop}
 use lib.Seq.{sets-eq}
 use borrow.Author.Tests.{le-leb, lt-leb}
-use Rattle.listing.specs.declared.Listed.{Listed}
 use Rattle.listing.specs.Listing.{listing_of}
 use Rattle.listing.proofs.list.Goals as goal
 
@@ -17,7 +17,7 @@ returns-then-n-text c =
     let h : length all ≤ length c.args.text.now = omega arith in
     let t = le-leb (length all) (length c.args.text.now) h in
     let e = sets-eq all c.args.text.now 0 (omega arith) ∙ ap (λ (k : ℕ). all ++ drop k c.args.text.now) (zero-add (length all)) in
-    (rw t (ap Listed.Wrote c.measure-n.ensures), rw t (c.write.ensures ∙ e))
+    (rw t (ap Ok c.measure-n.ensures), rw t (c.write.ensures ∙ e))
 
 pub returns-else-n-text : goal.returns-else-n-text
 returns-else-n-text c =

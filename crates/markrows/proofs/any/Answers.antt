@@ -1,24 +1,7 @@
-use Prim.Native.Nat.{◌+◌, ◌*◌, ◌-◌}
-use mathlib.Core.Path.{refl, ap, ◌∙◌}
-use mathlib.Core.Bool.{Bool, true, cond, not}
-use native.Mathlib.Omega.{arith}
-use native.Mathlib.Numerals.{add-one}
-use lib.Dec.{eqb}
-use lib.ListN.{get_or}
-use Rattle.machine.specs.Lanes.{any_below}
-use Rattle.markrows.proofs.Setting.{greatest}
+use mathlib.Core.Path.{ap, ◌∙◌}
+use mathlib.Core.Bool.{not}
+use Rattle.markrows.proofs.Parts.{part_marked}
 use Rattle.markrows.proofs.any.Goals as goal
 
-pub loop-i-init : goal.loop-i-init
-unfolding any_below
-loop-i-init c = (omega arith, refl)
-
-pub loop-i-preserved : goal.loop-i-preserved
-unfolding any_below
-loop-i-preserved c =
-    let l = c.loop-i in
-    let a = c.args in
-    let x = get_or a.marks.now (32 * a.h + l.i) 0 in (
-      omega arith,
-      rw (add-one, c.most-greatest.ensures) (greatest l.greatest x ∙ ap (λ (b : Bool). cond (not (eqb x 0)) true b) l.invariant.1),
-    )
+pub returns : goal.returns
+returns c = ap not c.greatest.ensures ∙ part_marked c.args.marks.now c.args.h c.args.n c.requires

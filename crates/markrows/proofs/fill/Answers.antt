@@ -1,25 +1,15 @@
-use Prim.Native.Nat.{◌-◌}
-use mathlib.Core.Path.{◌≡◌, refl, ◌∙◌}
+use mathlib.Core.Path.{◌≡◌}
+use Prim.Native.Nat.{ℕ, ◌<◌}
+use lib.ListN.{length, get_or}
 use native.Mathlib.Omega.{arith}
-use native.Mathlib.Numerals.{add-one}
-use lib.ListN.{length-set}
-use Rattle.markrows.proofs.Setting.{set-none, fill_more, set_all}
+use Rattle.std.proofs.Common.{rules, length-take, length-drop}
+use Rattle.markrows.proofs.Parts.{part_filled}
 use Rattle.markrows.proofs.fill.Goals as goal
-
-pub loop-t-init : goal.loop-t-init
-loop-t-init c = let a = c.args in (omega arith, refl, set-none a.h 4294967295 a.v a.marks.now)
-
-pub loop-t-preserved : goal.loop-t-preserved
-loop-t-preserved c =
-    let l = c.loop-t in
-    let a = c.args in (
-      omega arith,
-      simp length-set l.invariant.1,
-      rw (add-one, l.invariant.2) (fill_more a.h a.v a.marks.now l.t (omega arith) (omega arith)),
-    )
 
 pub returns : goal.returns
 returns c =
     let a = c.args in
-    let e : c.loop-t.t ≡ 32 = omega arith in
-    c.loop-t.invariant.2 ∙ rw e (set_all a.h 4294967295 a.v a.marks.now)
+    let row = c.fill.new.self in
+    let size : length row ≡ 32 = rw c.fill.ensures.len (simp (length-take, length-drop) (omega arith)) in
+    let all : (i : ℕ) → i < 32 → get_or row i 0 ≡ a.v = λ i h. search rules in
+    part_filled a.h a.v a.marks.now row c.requires size all

@@ -1,5 +1,5 @@
-use Prim.Native.Nat.{◌-◌, ◌+◌, ◌*◌}
-use mathlib.Core.Path.{refl, ap₂, ◌∙◌}
+use Prim.Native.Nat.{◌+◌, ◌*◌}
+use mathlib.Core.Path.{◌≡◌, refl, ap₂, ◌∙◌}
 use mathlib.Core.Bool.{Bool, true, cond}
 use native.Mathlib.Omega.{arith}
 use native.Mathlib.Numerals.{add-one}
@@ -10,7 +10,7 @@ use Rattle.markrows.proofs.marked_by.Goals as goal
 
 pub loop-t-init : goal.loop-t-init
 unfolding any_below
-loop-t-init c = (omega arith, refl)
+loop-t-init c = refl
 
 pub loop-t-preserved : goal.loop-t-preserved
 unfolding any_below
@@ -18,8 +18,11 @@ loop-t-preserved c =
     let l = c.loop-t in
     let a = c.args in
     let x = get_or a.marks.now (32 * a.h + l.t) 0 in
-    let on = active_in a.who l.t in (
-      omega arith,
-      rw (add-one, c.most-greatest.ensures, c.choose.ensures, c.active.ensures)
-          (greatest l.greatest (cond on x 0) ∙ ap₂ (λ (p q : Bool). cond p true q) (chosen on x) l.invariant.1),
-    )
+    let on = active_in a.who l.t in
+    rw (add-one, c.max-greatest.ensures, c.choose.ensures, c.active.ensures)
+    (greatest l.greatest (cond on x 0) ∙ ap₂ (λ (p q : Bool). cond p true q) (chosen on x) l.invariant)
+
+pub returns : goal.returns
+returns c =
+    let e : c.loop-t.t ≡ 32 = omega arith in
+    c.loop-t.invariant ∙ rw e

@@ -1,5 +1,4 @@
 -- The threads passed are set.
-use Prim.Native.Nat.{◌-◌, ◌≤◌}
 use mathlib.Core.Path.{◌≡◌}
 use lib.ListN.{length}
 use Rattle.machine.specs.Marks.{each_mark}
@@ -8,7 +7,4 @@ use Rattle.markrows.proofs.set.Given as goal
 
 abbrev pub invariant-loop-t : goal.invariant-loop-t
 invariant-loop-t l =
-    (l.t ≤ 32) × (length l.marks ≡ length l.initial.marks) × (l.marks ≡ each_mark (lane l.h l.who l.v l.t) l.initial.marks)
-
-abbrev pub decreases-loop-t : goal.decreases-loop-t
-decreases-loop-t l = 32 - l.t
+    (length l.marks ≡ length l.initial.marks) × (l.marks ≡ each_mark (lane l.h l.who l.v l.t) l.initial.marks)

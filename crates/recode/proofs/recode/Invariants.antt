@@ -5,8 +5,8 @@ use lib.ListN.{length}
 use Rattle.recode.proofs.Steps.{done}
 use Rattle.recode.proofs.recode.Given as goal
 
-abbrev pub invariant-loop-at : goal.invariant-loop-at
-invariant-loop-at l = (l.out ≡ done l.code l.initial.out l.at) × (l.at ≤ length l.code) × (length l.out ≡ length l.initial.out)
+abbrev pub invariant-loop-i : goal.invariant-loop-i
+invariant-loop-i l = (l.out ≡ done l.code l.initial.out l.at) × (l.at ≤ length l.code) × (length l.out ≡ length l.initial.out)
 
-abbrev pub decreases-loop-at : goal.decreases-loop-at
-decreases-loop-at l = length l.code - l.at
+abbrev pub decreases-loop-i : goal.decreases-loop-i
+decreases-loop-i l = length l.code - l.at

@@ -1,5 +1,5 @@
 -- The number of bytes written, or -1 where there are none.
-use Rattle.std.proofs.Common.{◌≡◌, ℕ, ◌≤◌, ◌<◌, ◌⊎◌, inl, inr, length, arith, ap, ◌∙◌, pos, w32}
+use Rattle.std.proofs.Common.{◌≡◌, ℕ, ◌≤◌, Some, None, length, arith, ap, sym, ◌∙◌, pos, w32}
 use Rattle.std.specs.Prelude.{neg_ℤ}
 use mir.Facts.{to_z_pos}
 use borrow.Author.Tests.{le-leb, lt-leb}
@@ -10,36 +10,27 @@ use Rattle.compared.proofs.Lines.{written}
 use Rattle.reedtassel_compare.specs.Compare.{returned_for}
 use Rattle.reedtassel_compare.proofs.reedtassel_compare.Goals as goal
 
-module _ (c : Comparison) (room n : ℕ) (e : n ≡ written_of (line_of c) room) where
-  refused : n ≡ 0 → neg_ℤ (pos 1) ≡ returned_for (line_of c) room
-  refused z = go (written c room n e)
-    where
-      go : ((n ≡ 0) × (room < length (line_of c))) ⊎ ((0 < n) × (n ≤ 16) × (n ≡ length (line_of c)) × (length (line_of c) ≤ room))
-          → neg_ℤ (pos 1) ≡ returned_for (line_of c) room
-      go (inl h) = rw (lt-leb (length (line_of c)) room h.1)
-      go (inr h) = absurd (omega arith)
+refused : (c : Comparison) (room : ℕ) → None ≡ written_of (line_of c) room → neg_ℤ (pos 1) ≡ returned_for (line_of c) room
+refused c room e = rw (lt-leb (length (line_of c)) room (written c room None e))
 
-  counted : (n ≡ 0 → ⊥) → (n ≤ 16) × (pos n ≡ returned_for (line_of c) room)
-  counted z = go (written c room n e)
-    where
-      go : ((n ≡ 0) × (room < length (line_of c))) ⊎ ((0 < n) × (n ≤ 16) × (n ≡ length (line_of c)) × (length (line_of c) ≤ room))
-          → (n ≤ 16) × (pos n ≡ returned_for (line_of c) room)
-      go (inl h) = absurd (z h.0)
-      go (inr h) = (h.1, rw (le-leb (length (line_of c)) room h.3) (ap pos h.2))
+counted : (c : Comparison) (room n : ℕ) → Some n ≡ written_of (line_of c) room → (n ≤ 16) × (pos n ≡ returned_for (line_of c) room)
+counted c room n e =
+    let w = written c room (Some n) e in
+    (w.0, rw (le-leb (length (line_of c)) room w.2) (ap pos w.1))
 
-pub returns-then-n-eq0 : goal.returns-then-n-eq0
-returns-then-n-eq0 c =
+pub returns-in-None : goal.returns-in-None
+returns-in-None c =
     record {
-      returns = refused (compare_of c.args.first.now c.args.second.now) (length c.args.line.now) _ c.compare_line-n.ensures.0 c.if-n-eq0.true;
-      leaves = c.compare_line-n.ensures.1;
+      returns = refused (compare_of c.args.first.now c.args.second.now) _ (sym c.in-None.is ∙ c.compare_line.ensures.0);
+      leaves = c.compare_line.ensures.1;
     }
 
 pub overflow_cast-result : goal.overflow_cast-result
 overflow_cast-result c =
-    let r = (counted (compare_of c.args.first.now c.args.second.now) (length c.args.line.now) _ c.compare_line-n.ensures.0 c.if-n-eq0.false).0 in
+    let r = (counted (compare_of c.args.first.now c.args.second.now) _ _ (sym c.in-Some.is ∙ c.compare_line.ensures.0)).0 in
     omega arith
 
-pub returns : goal.returns
-returns c =
-    let r = counted (compare_of c.args.first.now c.args.second.now) (length c.args.line.now) _ c.compare_line-n.ensures.0 c.if-n-eq0.false in
-    record { returns = to_z_pos w32 (omega arith) ∙ r.1; leaves = c.compare_line-n.ensures.1 }
+pub returns-in-Some : goal.returns-in-Some
+returns-in-Some c =
+    let r = counted (compare_of c.args.first.now c.args.second.now) _ _ (sym c.in-Some.is ∙ c.compare_line.ensures.0) in
+    record { returns = to_z_pos w32 (omega arith) ∙ r.1; leaves = c.compare_line.ensures.1 }

@@ -9,7 +9,7 @@ use Rattle.plan.proofs.Planning.{plan_of_end}
 use Rattle.marks.specs.Settled.{AllClear}
 use Rattle.marks.proofs.Laws.{found-clear}
 use Rattle.step.proofs.Taken.{quiet_plan, still_clear}
-use Rattle.run.proofs.Slots.{no_plan, cached_first, looked, rows-kept}
+use Rattle.run.proofs.Slots.{no_plan, cached_first, looked}
 use Rattle.run.proofs.Turns.{at-start, at-end, at_spent, at-refusal, at-step}
 use Rattle.run.proofs.run_arranged.Goals as goal
 use Rattle.run.proofs.run_arranged.Goals.{then-not-is_of, else-not-is_of}
@@ -18,7 +18,6 @@ pub loop-address-init : goal.loop-address-init
 loop-address-init c = (
   at-start (omega arith) c.requires,
   cached_first c.args.code.now (length c.args.code.now) c.past_end-cache.result (rw c.past_end-cache.ensures (plan_of_end c.args.code.now)),
-  record { three = refl; all = refl },
   found-clear c.args.marks.now c.clear-quiet.result c.clear-quiet.ensures,
 )
 
@@ -45,25 +44,24 @@ step-requires c =
       rw h.here c.loop-address.invariant.0.inside,
       omega arith,
       omega (arith, c.loop-address.invariant.0.registers_kept, c.loop-address.invariant.0.marks_kept, c.loop-address.invariant.0.twice),
-      quiet_plan c.args.code.now (get_or c.if-not-is_of.cache c.slot_of-k.result no_plan) h.is c.loop-address.quiet c.stays_quiet-quiet.result c.loop-address.marks c.stays_quiet-quiet.ensures c.loop-address.invariant.3,
-      c.loop-address.invariant.2,
+      quiet_plan c.args.code.now (get_or c.if-not-is_of.cache c.slot_of-k.result no_plan) h.is c.loop-address.quiet c.stays_quiet-quiet.result c.loop-address.marks (rw c.discards.ensures at c.stays_quiet-quiet.ensures) c.loop-address.invariant.2,
     )
 
-pub shape_of-registers-in-Stops : goal.shape_of-registers-in-Stops
-shape_of-registers-in-Stops c = c.step.auto.registers ∙ c.loop-address.invariant.0.registers_kept
+pub shape_of-registers-in-Err : goal.shape_of-registers-in-Err
+shape_of-registers-in-Err c = c.step.auto.registers ∙ c.loop-address.invariant.0.registers_kept
 
-pub shape_of-marks-in-Stops : goal.shape_of-marks-in-Stops
-shape_of-marks-in-Stops c = c.step.auto.marks ∙ c.loop-address.invariant.0.marks_kept
+pub shape_of-marks-in-Err : goal.shape_of-marks-in-Err
+shape_of-marks-in-Err c = c.step.auto.marks ∙ c.loop-address.invariant.0.marks_kept
 
-pub shape_of-records-in-Stops : goal.shape_of-records-in-Stops
-shape_of-records-in-Stops c = c.loop-address.invariant.0.room_kept
+pub shape_of-records-in-Err : goal.shape_of-records-in-Err
+shape_of-records-in-Err c = c.loop-address.invariant.0.room_kept
 
-pub returns-in-Stops : goal.returns-in-Stops
-returns-in-Stops c =
+pub returns-in-Err : goal.returns-in-Err
+returns-in-Err c =
     let h = looked c.args.code.now c.loop-address.cache c.if-not-is_of.cache c.slot_of-k.result c.loop-address.address c.loop-address.invariant.1 (omega (arith, c.slot_of-k.ensures))
     (elim c.if-not-is_of.branch [ then-not-is_of w ↦ inl (w.at.result, w.at.ensures, w.cache-is) | else-not-is_of w ↦ inr (eqb-true _ _ (sym c.is_of.ensures ∙ w.if-not-is_of.false), w.cache-is) ]) in
     at-refusal c.loop-address.invariant.0 c.loop-address-test.true c.if-steps-budget.false c.step.result c.step.new.registers c.step.new.marks
-    (rw h.here at c.step.ensures.0) c.in-Stops.r c.in-Stops.is
+    (rw h.here at c.step.ensures.0) c.in-Err.r c.in-Err.is
 
 pub put-requires : goal.put-requires
 put-requires c =
@@ -81,11 +79,10 @@ loop-address-preserved c =
     let h = looked c.args.code.now c.loop-address.cache c.if-not-is_of.cache c.slot_of-k.result c.loop-address.address c.loop-address.invariant.1 (omega (arith, c.slot_of-k.ensures))
     (elim c.if-not-is_of.branch [ then-not-is_of w ↦ inl (w.at.result, w.at.ensures, w.cache-is) | else-not-is_of w ↦ inr (eqb-true _ _ (sym c.is_of.ensures ∙ w.if-not-is_of.false), w.cache-is) ]) in (
       at-step c.loop-address.invariant.0 c.loop-address-test.true c.if-steps-budget.false c.step.result c.step.new.registers c.step.new.marks
-          (rw h.here at c.step.ensures.0) c.in-Goes.next c.in-Goes.after c.in-Goes.bytes c.in-Goes.class c.record-record.result c.put.new.out c.in-Goes.is
-          c.step.auto.registers c.step.auto.marks c.record-record.ensures c.put.ensures,
+          (rw h.here at c.step.ensures.0) c.in-Ok.next c.record-record.result c.put.new.out c.in-Ok.is
+          c.step.auto.registers c.step.auto.marks (rw c.number-class.ensures at c.record-record.ensures) c.put.ensures,
       h.cached,
-      rows-kept c.step.result _ _ _ _ _ c.step.ensures.1 c.loop-address.invariant.2,
-      λ e. subst AllClear (sym (c.step.ensures.2 e)) (still_clear c.loop-address.quiet c.stays_quiet-quiet.result (get_or c.if-not-is_of.cache c.slot_of-k.result no_plan).discards c.loop-address.marks c.stays_quiet-quiet.ensures c.loop-address.invariant.3 e),
+      λ e. subst AllClear (sym (c.step.ensures.2 e)) (still_clear c.loop-address.quiet c.stays_quiet-quiet.result _ c.loop-address.marks c.stays_quiet-quiet.ensures c.loop-address.invariant.2 e),
     )
 
 pub shape_of-registers : goal.shape_of-registers

@@ -3,7 +3,6 @@
 use mathlib.Core.Path.{◌≡◌}
 use mathlib.Core.Bool.{true}
 use Prim.Native.Nat.{◌-◌}
-use Rattle.effect.specs.Rows.{rows, Fit}
 use Rattle.marks.specs.Settled.{AllClear}
 use Rattle.run.specs.Ran.{call_of}
 use Rattle.run.specs.Cache.{Cached}
@@ -13,7 +12,7 @@ use Rattle.run.proofs.run_arranged.Given as goal
 abbrev pub invariant-loop-address : goal.invariant-loop-address
 invariant-loop-address l =
     OnWay (call_of l.code l.initial.registers l.initial.marks l.uniforms l.specials l.start l.mask l.budget l.initial.records) l.registers l.marks l.records l.address l.active l.steps
-    × Cached l.code l.cache × Fit (rows l.sources l.values) × (l.quiet ≡ true → AllClear l.marks)
+    × Cached l.code l.cache × (l.quiet ≡ true → AllClear l.marks)
 
 abbrev pub decreases-loop-address : goal.decreases-loop-address
 decreases-loop-address l =

@@ -1,6 +1,6 @@
 -- By the sign bit's power the value is extended, by 0 it is as it was.
-use Rattle.std.proofs.Common.{◌≡◌, ◌+◌, ◌%◌, ◌^◌, arith, eq-eqb, ne_eqb}
-use lib.Bits.{bit_xor, xor_zero_r}
+use Rattle.std.proofs.Common.{arith, eq-eqb, ne_eqb}
+use lib.Bits.{xor_zero_r}
 use Rattle.machine.specs.Integer.{modulo}
 use Rattle.machine.specs.Meaning.{extended}
 use Rattle.signs.proofs.Modulo.{sign_power, xor_extends}
@@ -12,13 +12,9 @@ unfolding extended modulo
 returns c =
     let a = c.args in
     let p = c.requires in
-    let r = c.wrapping_sub_u64.result in
     elim c.if-signed-eq1.branch [
       | then-signed-eq1 w ↦
-          rw (eq-eqb a.signed 1 w.if-signed-eq1.true)
-          (xor_extends a.x a.size r p (omega arith) (rw (w.top-is, sign_power a.size p) at c.wrapping_sub_u64.ensures.value))
+          rw (eq-eqb a.signed 1 w.if-signed-eq1.true, w.top-is, sign_power a.size p) (xor_extends a.x a.size p)
       | else-signed-eq1 w ↦
-          let z : c.if-signed-eq1.top ≡ 0 = w.top-is in
-          let e : (r + 0) % 2 ^ 64 ≡ bit_xor a.x 0 = rw z at c.wrapping_sub_u64.ensures.value in
-          rw (ne_eqb a.signed 1 w.if-signed-eq1.false) (omega (arith, xor_zero_r a.x))
+          rw (ne_eqb a.signed 1 w.if-signed-eq1.false, w.top-is) (omega (arith, xor_zero_r a.x))
     ]

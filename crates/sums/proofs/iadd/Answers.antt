@@ -1,5 +1,5 @@
 -- The sum of the words is the sum modulo 2^64; where it saturates it is exact.
-use Rattle.std.proofs.Common.{◌≡◌, Bool, ℤ, sym, ap, ◌∙◌, arith}
+use Rattle.std.proofs.Common.{◌≡◌, ◌+◌, ◌%◌, ◌^◌, Bool, ℤ, refl, sym, ap, ◌∙◌, arith}
 use Rattle.machine.specs.Integer.{modulo, saturate_integer}
 use Rattle.machine.specs.Meaning.{extended, either, is_set}
 use Rattle.operations.specs.Operation.{sum_of}
@@ -14,10 +14,10 @@ returns-then-saturating c k =
     let o = a.o in
     let first = extended o.asigned o.asize a.a in
     let second = extended o.bsigned o.bsize a.b in
-    let x = c.wrapping_add_u64-sum.result in
+    let x = (c.extend-x.result + c.term.result) % 2 ^ 64 in
     let whole : x ≡ modulo (iadd_sum (sum_of o) a.a a.b) 64
     = added o.negate o.shift first second c.extend-x.result c.extend-y.result c.term.result
-    x c.extend-x.ensures c.extend-y.ensures c.term.ensures c.wrapping_add_u64-sum.ensures.value in
+    x c.extend-x.ensures c.extend-y.ensures c.term.ensures refl in
     let e = sym c.saturating.ensures ∙ c.if-saturating.true in
     let f = saturates_true o.saturate o.shift o.asize o.bsize o.dsize e in
     let m = nat_abs_extended o.asigned o.asize a.a f.first c.requires.1 in
@@ -33,9 +33,9 @@ returns-else-saturating c k =
     let o = a.o in
     let first = extended o.asigned o.asize a.a in
     let second = extended o.bsigned o.bsize a.b in
-    let x = c.wrapping_add_u64-sum.result in
+    let x = (c.extend-x.result + c.term.result) % 2 ^ 64 in
     let whole : x ≡ modulo (iadd_sum (sum_of o) a.a a.b) 64
     = added o.negate o.shift first second c.extend-x.result c.extend-y.result c.term.result
-    x c.extend-x.ensures c.extend-y.ensures c.term.ensures c.wrapping_add_u64-sum.ensures.value in
+    x c.extend-x.ensures c.extend-y.ensures c.term.ensures refl in
     let e = sym c.saturating.ensures ∙ c.if-saturating.false in
     whole ∙ ap (λ (z : ℤ). modulo z 64) (iadd-is (sum_of o) a.a a.b k e)

@@ -1,5 +1,5 @@
 -- The factors are exact words. Where the sum saturates, the product is cut short and the sum is exact; else nothing is cut short.
-use Rattle.std.proofs.Common.{◌≡◌, ℕ, ◌+◌, ◌-◌, ◌%◌, ◌^◌, ◌<◌, Bool, ℤ, pos, ◌+ℤ◌, ◌*ℤ◌, nat_abs, sym, ap, ◌∙◌, arith}
+use Rattle.std.proofs.Common.{◌≡◌, ℕ, ◌+◌, ◌-◌, ◌%◌, ◌^◌, ◌<◌, Bool, ℤ, pos, ◌+ℤ◌, ◌*ℤ◌, nat_abs, refl, sym, ap, ◌∙◌, arith}
 use Rattle.machine.specs.Integer.{modulo, saturate_integer}
 use Rattle.machine.specs.Meaning.{extended, negated, scaled, either, is_set}
 use Rattle.operations.specs.Operation.{sum_of}
@@ -56,7 +56,7 @@ returns-then-saturating c =
     let third = extended o.csigned o.csize a.c in
     let term = scaled o.shift (negated o.negate third) in
     let p = first *ℤ second in
-    let x = c.wrapping_add_u64-sum.result in
+    let x = (c.product.result + c.term-t.result) % 2 ^ 64 in
     let signed = either (is_set o.asigned) (either (is_set o.bsigned) (is_set o.csigned)) in
     let e = sym c.saturating.ensures ∙ c.if-saturating.true in
     let f = saturates_true o.saturate o.shift 0 o.csize o.dsize e in
@@ -67,7 +67,7 @@ returns-then-saturating c =
     let k = nat_abs_term o.negate o.shift third f.unshifted in
     let w = whole o.negate o.shift (2 ^ 40) first second third c.extend-x.result c.extend-y.result c.extend-z.result
     c.term-t.result c.product.result x h j c.extend-x.ensures c.extend-y.ensures c.extend-z.ensures c.term-t.ensures
-    c.product.ensures c.wrapping_add_u64-sum.ensures.value in
+    c.product.ensures refl in
     limited_word o.negate o.shift o.dsize (capped (2 ^ 40) p) third signed x c.limited.result
     f.unshifted (omega arith) w
     (c.limited.ensures ∙ ap (λ (b : Bool). modulo (saturate_integer (signed_of x) o.dsize b) 64) c.signed.ensures)
@@ -86,7 +86,7 @@ returns-else-saturating c =
     let h = nat_abs_extended o.asigned o.asize a.a c.requires.0.factors.0 c.requires.1.a in
     let j = nat_abs_extended o.bsigned o.bsize a.b c.requires.0.factors.1 c.requires.1.b in
     whole o.negate o.shift (2 ^ 64 - 1) first second third c.extend-x.result c.extend-y.result c.extend-z.result
-    c.term-t.result c.product-else-saturating.result c.wrapping_add_u64.result h j c.extend-x.ensures c.extend-y.ensures
-    c.extend-z.ensures c.term-t.ensures c.product-else-saturating.ensures c.wrapping_add_u64.ensures.value
+    c.term-t.result c.product-else-saturating.result ((c.product-else-saturating.result + c.term-t.result) % 2 ^ 64) h j c.extend-x.ensures c.extend-y.ensures
+    c.extend-z.ensures c.term-t.ensures c.product-else-saturating.ensures refl
     ∙ ap (λ (y : ℤ). modulo y 64)
     (ap (λ (y : ℤ). y +ℤ term) (capped-none first second h j) ∙ imadd-is (sum_of o) a.a a.b a.c e)

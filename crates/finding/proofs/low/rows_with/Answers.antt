@@ -8,7 +8,8 @@ use Rattle.bits.proofs.Table.{upto, agree, and_left, and_right}
 use Rattle.isa.specs.Rows.{rows}
 use Rattle.rows.specs.Table.{table}
 use Rattle.finding.specs.Candidates.{first_in, end_in, candidates_of}
-use Rattle.finding.specs.declared.low.Candidates.{Candidates}
+use Rattle.std.specs.declared.ops.Range.{Range}
+use Rattle.std.proofs.Common.{rules}
 use Rattle.finding.proofs.low.rows_with.Goals as goal
 
 abbrev arms : List ℕ
@@ -35,62 +36,14 @@ all_others : upto 128 (λ low. among arms low || empty low) ≡ upto 128 (λ low
 unfolding rows table
 all_others = refl
 
-none : (low : ℕ) → low < 128 → NoneOf arms low → ◌≡◌ {A = Candidates} (record { first = 22; end = 0 }) (candidates_of low table)
+none : (low : ℕ) → low < 128 → NoneOf arms low → ◌≡◌ {A = Range ℕ} (record { start = 22; end = 0 }) (candidates_of low table)
 none low h o =
     let e = agree 128 (λ k. among arms k || empty k) (λ k. true) all_others low h in
     let q : empty low ≡ true = rw (not-among arms low o) at e in
     let f = eqb-true _ _ (and_left (eqb (first_in low table) 22) (eqb (end_in low table) 0) q) in
     let l = eqb-true _ _ (and_right (eqb (first_in low table) 22) (eqb (end_in low table) 0) q) in
-    ap₂ (λ (a b : ℕ). record { first = a; end = b }) (sym f) (sym l)
-
-pub returns-in-98 : goal.returns-in-98
-unfolding rows table
-returns-in-98 c = rw c.in-98.is refl
-
-pub returns-in-114 : goal.returns-in-114
-unfolding rows table
-returns-in-114 c = rw c.in-114.is refl
-
-pub returns-in-14 : goal.returns-in-14
-unfolding rows table
-returns-in-14 c = rw c.in-14.is refl
-
-pub returns-in-78 : goal.returns-in-78
-unfolding rows table
-returns-in-78 c = rw c.in-78.is refl
-
-pub returns-in-30 : goal.returns-in-30
-unfolding rows table
-returns-in-30 c = rw c.in-30.is refl
-
-pub returns-in-94 : goal.returns-in-94
-unfolding rows table
-returns-in-94 c = rw c.in-94.is refl
-
-pub returns-in-46 : goal.returns-in-46
-unfolding rows table
-returns-in-46 c = rw c.in-46.is refl
-
-pub returns-in-126 : goal.returns-in-126
-unfolding rows table
-returns-in-126 c = rw c.in-126.is refl
-
-pub returns-in-62 : goal.returns-in-62
-unfolding rows table
-returns-in-62 c = rw c.in-62.is refl
-
-pub returns-in-0 : goal.returns-in-0
-unfolding rows table
-returns-in-0 c = rw c.in-0.is refl
-
-pub returns-in-32 : goal.returns-in-32
-unfolding rows table
-returns-in-32 c = rw c.in-32.is refl
-
-pub returns-in-82 : goal.returns-in-82
-unfolding rows table
-returns-in-82 c = rw c.in-82.is refl
+    ap₂ (λ (a b : ℕ). record { start = a; end = b }) (sym f) (sym l)
 
 pub returns-in_default : goal.returns-in_default
 unfolding rows table
-returns-in_default c = none c.args.low c.requires c.in_default.in_default-own.rest
+returns-in_default c = none c.args.low c.requires (search rules)

@@ -1,19 +1,16 @@
-use mathlib.Core.Path.{◌≡◌, ap}
-use Prim.Native.Nat.{◌+◌}
-use native.Mathlib.Numerals.{add-one}
+use mathlib.Core.Path.{ap}
 use native.Mathlib.Omega.{arith}
-use lib.ListN.{get_or, drop, drop_of_length-le}
-use lib.Seq.{drop-cons}
+use lib.ListN.{drop_of_length-le}
+use Rattle.std.proofs.lemmas.List.{drop_more}
 use Rattle.hexpairs.specs.Pairs.{total}
 use Rattle.hexwrite.proofs.row.sum_of.Goals as goal
 
-pub loop-i-preserved : goal.loop-i-preserved
-loop-i-preserved c =
-    let t : total (drop c.loop-i.i c.args.bytes.now) ≡ get_or c.args.bytes.now c.loop-i.i 0 + total (drop (c.loop-i.i + 1) c.args.bytes.now) =
-    rw (add-one c.loop-i.i) (ap total (drop-cons c.args.bytes.now c.loop-i.i 0 (omega arith))) in
-    (omega arith, omega arith, omega arith)
+pub loop-byte-preserved : goal.loop-byte-preserved
+loop-byte-preserved c =
+    let t = ap total (drop_more c.args.bytes.now c.loop-byte.byte-index 0 (omega arith)) in
+    omega arith
 
 pub returns : goal.returns
 returns c =
-    let t = ap total (drop_of_length-le c.args.bytes.now {i = c.loop-i.i} (omega arith)) in
+    let t = ap total (drop_of_length-le c.args.bytes.now {i = c.loop-byte.byte-index} (omega arith)) in
     omega arith

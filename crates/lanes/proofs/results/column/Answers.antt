@@ -1,14 +1,7 @@
-use Prim.Native.Nat.{◌-◌}
-use mathlib.Core.Path.{refl}
-use native.Mathlib.Omega.{arith}
-use Rattle.machine.proofs.Rows.{starts, goes_on_lem, ends}
+use Rattle.std.proofs.Common.{rules}
+use Rattle.machine.proofs.Made.{made_row}
+use Rattle.lanes.specs.Results.{column_of}
 use Rattle.lanes.proofs.results.column.Goals as goal
 
-pub loop-t-init : goal.loop-t-init
-loop-t-init c = starts refl
-
-pub loop-t-preserved : goal.loop-t-preserved
-loop-t-preserved c = goes_on_lem c.loop-t.invariant (omega arith) c.result_word.ensures
-
 pub returns : goal.returns
-returns c = ends c.loop-t.invariant (omega arith)
+returns c = made_row _ (column_of c.args.values.now c.args.k) _ (λ t v f' k. search rules) c.from_fn.result 32 c.from_fn.ensures.items

@@ -1,29 +1,20 @@
-use Prim.Native.Nat.{ℕ, ◌+◌, ◌-◌, ◌*◌, ◌/◌, ◌%◌, ◌^◌}
-use mathlib.Core.Path.{◌∙◌}
-use native.Mathlib.Omega.{arith}
+use Prim.Native.Nat.{ℕ, ◌+◌, ◌*◌, ◌/◌, ◌%◌, ◌^◌}
+use mathlib.Core.Path.{◌≡◌, ◌∙◌}
+use mathlib.Core.Bool.{cond}
 use lib.Bits.{bit_and, bit_or}
 use lib.Dec.{eqb}
 use lib.ListN.{get_or}
-use Rattle.machine.proofs.Rows.{starts, goes_on_lem, ends, rest}
-use Rattle.lanes.proofs.Halves.{place_lt, half_merge}
+use Rattle.std.proofs.Common.{rules}
+use Rattle.machine.proofs.Made.{made_row}
+use Rattle.lanes.specs.Results.{merged_at}
+use Rattle.lanes.proofs.Halves.{half_merge}
 use Rattle.lanes.proofs.results.merged.Goals as goal
 
-pub loop-t-init : goal.loop-t-init
-loop-t-init c = starts c.requires.0
-
-pub merge-requires : goal.merge-requires
-merge-requires c =
-    rw c.place-place.ensures
-    (place_lt (eqb (c.args.h % 2) 0))
-
-pub loop-t-preserved : goal.loop-t-preserved
-loop-t-preserved c =
-    let word : ℕ → ℕ = λ r. get_or c.args.registers.now (32 * r + c.loop-t.t) 0 in
-    let x = rest c.loop-t.invariant (omega arith) in
-    goes_on_lem c.loop-t.invariant (omega arith)
-    (c.merge.ensures
-    ∙ (λ i. bit_or (bit_and (word (c.index-base.ensures i)) (c.other-other.ensures i)) (x i % 2 ^ 16 * 2 ^ c.place-place.ensures i % 2 ^ 32))
-    ∙ half_merge c.args.h (word (c.args.h / 2)) (c.type_inv.registers (32 * (c.args.h / 2) + c.loop-t.t)).fits (get_or c.args.row.now c.loop-t.t 0))
-
 pub returns : goal.returns
-returns c = ends c.loop-t.invariant (omega arith)
+returns c =
+    let a = c.args in
+    let i : ℕ → ℕ = λ t. 32 * (a.h / 2) + t in
+    made_row _ (merged_at a.registers.now a.h a.row.now) _ (λ t v f' k.
+    let e : v ≡ bit_or (bit_and (get_or a.registers.now (i t) 0) (cond (eqb (a.h % 2) 0) 4294901760 65535))
+    (get_or a.row.now t 0 % 2 ^ 16 * 2 ^ cond (eqb (a.h % 2) 0) 0 16 % 2 ^ 32) = search rules in
+    (e ∙ half_merge a.h (get_or a.registers.now (i t) 0) (c.type_inv.registers (i t)).fits (get_or a.row.now t 0), search rules)) c.from_fn.result 32 c.from_fn.ensures.items

@@ -9,8 +9,8 @@ use Rattle.lanes.proofs.results.pairs.Goals as goal
 pub returns : goal.returns
 returns c =
     c.put-2.ensures
-    ∙ ap (each 32 (word_lane c.column-2.new.row c.args.mask (c.index-first.result + 1))) c.put.ensures
+    ∙ ap (each 32 (word_lane c.column-2.result c.args.mask (c.from-first.result + 1))) c.put.ensures
     ∙ (λ i.
-    each 32 (word_lane (c.column-2.ensures i) c.args.mask (c.index-first.ensures i + 1))
-    (each 32 (word_lane (c.column.ensures i) c.args.mask (c.index-first.ensures i)) c.args.registers.now))
+    each 32 (word_lane (c.column-2.ensures i) c.args.mask (c.from-first.ensures i + 1))
+    (each 32 (word_lane (c.column.ensures i) c.args.mask (c.from-first.ensures i)) c.args.registers.now))
     ∙ put-pairs c.args.values.now c.args.mask c.args.r c.args.registers.now

@@ -1,4 +1,3 @@
-use Prim.Native.Nat.{◌-◌}
 use mathlib.Core.Path.{◌≡◌, refl, ◌∙◌}
 use native.Mathlib.Omega.{arith}
 use native.Mathlib.Numerals.{add-one}
@@ -9,14 +8,14 @@ use Rattle.lanes.proofs.results.put.Goals as goal
 
 pub loop-t-init : goal.loop-t-init
 unfolding each
-loop-t-init c = (omega arith, refl, refl)
+loop-t-init c = (refl, refl)
 
 pub loop-t-preserved : goal.loop-t-preserved
 unfolding each word_lane
 loop-t-preserved c =
-    (omega arith, simp length-set c.loop-t.invariant.1, rw (add-one, ← c.loop-t.invariant.2, c.choose.ensures, c.active.ensures))
+    (simp length-set c.loop-t.invariant.0, rw (add-one, ← c.loop-t.invariant.1, c.choose.ensures, c.active.ensures))
 
 pub returns : goal.returns
 returns c =
     let e : c.loop-t.t ≡ 32 = omega arith in
-    c.loop-t.invariant.2 ∙ rw e
+    c.loop-t.invariant.1 ∙ rw e

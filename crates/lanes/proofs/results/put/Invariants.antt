@@ -1,5 +1,4 @@
 -- The threads passed are written.
-use Prim.Native.Nat.{◌-◌, ◌≤◌}
 use mathlib.Core.Path.{◌≡◌}
 use lib.ListN.{length}
 use Rattle.machine.specs.Lanes.{each}
@@ -8,7 +7,4 @@ use Rattle.lanes.proofs.results.put.Given as goal
 
 abbrev pub invariant-loop-t : goal.invariant-loop-t
 invariant-loop-t l =
-    (l.t ≤ 32) × (length l.registers ≡ length l.initial.registers) × (l.registers ≡ each l.t (word_lane l.row l.mask l.r) l.initial.registers)
-
-abbrev pub decreases-loop-t : goal.decreases-loop-t
-decreases-loop-t l = 32 - l.t
+    (length l.registers ≡ length l.initial.registers) × (l.registers ≡ each l.t (word_lane l.row l.mask l.r) l.initial.registers)

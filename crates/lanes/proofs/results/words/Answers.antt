@@ -8,5 +8,5 @@ use Rattle.lanes.proofs.results.words.Goals as goal
 pub returns : goal.returns
 returns c =
     c.put.ensures
-    ∙ (λ i. each 32 (word_lane (c.column.ensures i) c.args.mask (c.index.ensures i)) c.args.registers.now)
+    ∙ (λ i. each 32 (word_lane (c.column.ensures i) c.args.mask (c.from.ensures i)) c.args.registers.now)
     ∙ put-words c.args.values.now c.args.mask c.args.r c.args.registers.now

@@ -1,27 +1,18 @@
-use Prim.Native.Nat.{ℕ, ◌+◌, ◌-◌, ◌*◌, ◌/◌, ◌%◌, ◌^◌}
-use mathlib.Core.Path.{refl, ◌∙◌}
-use native.Mathlib.Omega.{arith}
+use Prim.Native.Nat.{ℕ, ◌+◌, ◌*◌, ◌/◌, ◌%◌, ◌^◌}
+use mathlib.Core.Path.{◌≡◌, ◌∙◌}
+use mathlib.Core.Bool.{cond}
 use lib.Dec.{eqb}
 use lib.ListN.{get_or}
-use Rattle.machine.proofs.Rows.{starts, goes_on_lem, ends}
-use Rattle.lanes.proofs.Halves.{place_lt, half_part}
+use Rattle.std.proofs.Common.{rules}
+use Rattle.machine.proofs.Made.{made_row}
+use Rattle.lanes.specs.Sources.{half_at}
+use Rattle.lanes.proofs.Halves.{half_part}
 use Rattle.lanes.proofs.sources.halves.Goals as goal
 
-pub loop-t-init : goal.loop-t-init
-loop-t-init c = starts refl
-
-pub part-requires : goal.part-requires
-part-requires c =
-    rw c.place-place.ensures
-    (place_lt (eqb (c.args.h % 2) 0))
-
-pub loop-t-preserved : goal.loop-t-preserved
-loop-t-preserved c =
-    let word : ℕ → ℕ = λ r. get_or c.args.file.now (32 * r + c.loop-t.t) 0 in
-    goes_on_lem c.loop-t.invariant (omega arith)
-    (c.part.ensures
-    ∙ (λ i. word (c.index-base.ensures i) / 2 ^ c.place-place.ensures i % 2 ^ 16)
-    ∙ half_part c.args.h (word (c.args.h / 2)) (c.type_inv.file (32 * (c.args.h / 2) + c.loop-t.t)).fits)
-
 pub returns : goal.returns
-returns c = ends c.loop-t.invariant (omega arith)
+returns c =
+    let a = c.args in
+    let i : ℕ → ℕ = λ t. 32 * (a.h / 2) + t in
+    made_row _ (half_at a.file.now a.h) _ (λ t v f' k.
+    let e : v ≡ get_or a.file.now (i t) 0 / 2 ^ cond (eqb (a.h % 2) 0) 0 16 % 2 ^ 16 = search rules in
+    (e ∙ half_part a.h (get_or a.file.now (i t) 0) (c.type_inv.file (i t)).fits, search rules)) c.from_fn.result 32 c.from_fn.ensures.items

@@ -1,19 +1,7 @@
-use Prim.Native.Nat.{ℕ, ◌+◌, ◌-◌, ◌*◌}
-use mathlib.Core.Path.{◌≡◌, refl, ap, ◌∙◌}
-use native.Mathlib.Omega.{arith}
-use lib.ListN.{get_or}
-use Rattle.machine.specs.Words.{pair_of}
-use Rattle.machine.proofs.Rows.{starts, goes_on_lem, ends}
+use Rattle.std.proofs.Common.{rules}
+use Rattle.machine.proofs.Made.{made_row}
+use Rattle.lanes.specs.Sources.{pair_at}
 use Rattle.lanes.proofs.sources.pairs.Goals as goal
 
-pub loop-t-init : goal.loop-t-init
-loop-t-init c = starts refl
-
-pub loop-t-preserved : goal.loop-t-preserved
-loop-t-preserved c =
-    let second : 32 * c.args.r + 32 + c.loop-t.t ≡ 32 * (c.args.r + 1) + c.loop-t.t = omega arith in
-    goes_on_lem c.loop-t.invariant (omega arith)
-    (c.pair.ensures ∙ ap (λ (i : ℕ). pair_of (get_or c.args.file.now (32 * c.args.r + c.loop-t.t) 0) (get_or c.args.file.now i 0)) second)
-
 pub returns : goal.returns
-returns c = ends c.loop-t.invariant (omega arith)
+returns c = made_row _ (pair_at c.args.file.now c.args.r) _ (λ t v f' k. search rules) c.from_fn.result 32 c.from_fn.ensures.items

@@ -1,32 +1,18 @@
 -- Each arm makes the row of its case of the source.
-use Prim.Native.Nat.{ℕ, ◌+◌, ◌*◌, ◌/◌}
-use mathlib.Core.Path.{refl, ap, ◌∙◌}
+use Prim.Native.Nat.{◌+◌, ◌*◌, ◌/◌}
+use mathlib.Core.Path.{refl}
 use native.Mathlib.Omega.{arith}
 use lib.ListN.{get_or}
+use Rattle.std.proofs.Common.{rules}
 use Rattle.isa.specs.declared.operand.Source.{Source}
 use Rattle.machine.specs.Words.{word_at, source_value}
-use Rattle.lanes.specs.Sources.{pair_at}
-use Rattle.lanes.proofs.Bounds.{half_below, pair_below, source_made}
+use Rattle.lanes.proofs.Bounds.{half_below, pair_below, row_alike, source_made}
 use Rattle.lanes.proofs.sources.source.Goals as goal
-
-pub halves-requires : goal.halves-requires
-halves-requires c =
-    rw c.in-Half.is at c.requires
-
-pub words-requires : goal.words-requires
-words-requires c =
-    rw c.index.ensures
-    (rw c.in-Register.is at c.requires)
-
-pub pairs-requires : goal.pairs-requires
-pairs-requires c =
-    rw c.index-in-Pair.ensures
-    (rw c.in-Pair.is at c.requires)
 
 pub returns-in-Half : goal.returns-in-Half
 unfolding source_value
 returns-in-Half c =
-    source_made c.args.registers.now c.args.uniforms.now c.halves.new.row c.args.s (Source.Half c.in-Half.h) _ c.in-Half.is
+    source_made c.args.registers.now c.args.uniforms.now c.halves.result c.args.s (Source.Half c.in-Half.h) _ c.in-Half.is
     c.halves.ensures
     (λ t. refl)
     (λ t. half_below c.in-Half.h (word_at c.args.registers.now (c.in-Half.h / 2) t) (c.type_inv.registers (32 * (c.in-Half.h / 2) + t)).fits)
@@ -34,49 +20,48 @@ returns-in-Half c =
 pub returns-in-Register : goal.returns-in-Register
 unfolding source_value
 returns-in-Register c =
-    source_made c.args.registers.now c.args.uniforms.now c.words.new.row c.args.s (Source.Register c.in-Register.r) _ c.in-Register.is
+    source_made c.args.registers.now c.args.uniforms.now c.words.result c.args.s (Source.Register c.in-Register.r) _ c.in-Register.is
     c.words.ensures
-    (λ t. ap (λ (k : ℕ). word_at c.args.registers.now k t) c.index.ensures)
+    (λ t. refl)
     (λ t. (c.type_inv.registers (32 * c.in-Register.r + t)).fits)
 
 pub returns-in-Pair : goal.returns-in-Pair
 unfolding source_value
 returns-in-Pair c =
-    source_made c.args.registers.now c.args.uniforms.now c.pairs.new.row c.args.s (Source.Pair c.in-Pair.r) _ c.in-Pair.is
+    source_made c.args.registers.now c.args.uniforms.now c.pairs.result c.args.s (Source.Pair c.in-Pair.r) _ c.in-Pair.is
     c.pairs.ensures
-    (λ t. ap (λ (k : ℕ). pair_at c.args.registers.now k t) c.index-in-Pair.ensures)
+    (λ t. refl)
     (λ t. pair_below (word_at c.args.registers.now c.in-Pair.r t) (word_at c.args.registers.now (c.in-Pair.r + 1) t) (c.type_inv.registers (32 * c.in-Pair.r + t)).fits
     (c.type_inv.registers (32 * (c.in-Pair.r + 1) + t)).fits)
 
 pub returns-in-UniformHalf : goal.returns-in-UniformHalf
 unfolding source_value
 returns-in-UniformHalf c =
-    source_made c.args.registers.now c.args.uniforms.now c.fill.new.row c.args.s (Source.UniformHalf c.in-UniformHalf.h) _ c.in-UniformHalf.is
-    c.fill.ensures
+    source_made c.args.registers.now c.args.uniforms.now _ c.args.s (Source.UniformHalf c.in-UniformHalf.h) _ c.in-UniformHalf.is
+    (row_alike _)
     (λ t. c.uniform_half.ensures)
     (λ t. half_below c.in-UniformHalf.h (get_or c.args.uniforms.now (c.in-UniformHalf.h / 2) 0) (c.type_inv.uniforms (c.in-UniformHalf.h / 2)).fits)
 
 pub returns-in-UniformRegister : goal.returns-in-UniformRegister
 unfolding source_value
 returns-in-UniformRegister c =
-    source_made c.args.registers.now c.args.uniforms.now c.fill-in-UniformRegister.new.row c.args.s (Source.UniformRegister c.in-UniformRegister.r) _ c.in-UniformRegister.is
-    c.fill-in-UniformRegister.ensures
-    (λ t. c.wide.ensures ∙ c.uniform.ensures
-    ∙ ap (λ (i : ℕ). get_or c.args.uniforms.now i 0) c.index-in-UniformRegister.ensures)
+    source_made c.args.registers.now c.args.uniforms.now _ c.args.s (Source.UniformRegister c.in-UniformRegister.r) _ c.in-UniformRegister.is
+    (row_alike _)
+    (λ t. search rules)
     (λ t. (c.type_inv.uniforms c.in-UniformRegister.r).fits)
 
 pub returns-in-UniformPair : goal.returns-in-UniformPair
 unfolding source_value
 returns-in-UniformPair c =
-    source_made c.args.registers.now c.args.uniforms.now c.fill-in-UniformPair.new.row c.args.s (Source.UniformPair c.in-UniformPair.r) _ c.in-UniformPair.is
-    c.fill-in-UniformPair.ensures
+    source_made c.args.registers.now c.args.uniforms.now _ c.args.s (Source.UniformPair c.in-UniformPair.r) _ c.in-UniformPair.is
+    (row_alike _)
     (λ t. c.uniform_pair.ensures)
     (λ t. pair_below (get_or c.args.uniforms.now c.in-UniformPair.r 0) (get_or c.args.uniforms.now (c.in-UniformPair.r + 1) 0) (c.type_inv.uniforms c.in-UniformPair.r).fits (c.type_inv.uniforms (c.in-UniformPair.r + 1)).fits)
 
 pub returns-in-Immediate : goal.returns-in-Immediate
 unfolding source_value
 returns-in-Immediate c =
-    source_made c.args.registers.now c.args.uniforms.now c.fill-in-Immediate.new.row c.args.s (Source.Immediate c.in-Immediate.v) _ c.in-Immediate.is
-    c.fill-in-Immediate.ensures
-    (λ t. refl)
-    (λ t. omega (arith, c.in-Immediate.known_told-in-Immediate-1-own.given))
+    source_made c.args.registers.now c.args.uniforms.now _ c.args.s (Source.Immediate c.in-Immediate.v) _ c.in-Immediate.is
+    (row_alike _)
+    (λ t. search rules)
+    (λ t. omega arith)

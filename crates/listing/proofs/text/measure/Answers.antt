@@ -1,9 +1,8 @@
 use mathlib.Core.Path.{ap}
-use Prim.Native.Nat.{◌-◌}
 use native.Mathlib.Omega.{arith}
 use lib.ListN.{length}
 use Rattle.lines.specs.Line.{end_line, refused_line}
-use Rattle.listing.proofs.Left.{left_all, Step, step, left_refused, left_end}
+use Rattle.listing.proofs.Left.{left_all, step, left_refused, left_end}
 use Rattle.listing.proofs.text.measure.Goals as goal
 
 pub loop-at-init : goal.loop-at-init
@@ -12,38 +11,28 @@ loop-at-init c =
 
 pub line_length-n-requires : goal.line_length-n-requires
 line_length-n-requires c =
-    let turn : Step c.args.code.now c.loop-at.at c.in-Found.i c.in-Found.k = step c.args.code.now c.loop-at.at c.in-Found.i c.in-Found.k c.decoded_at.result
-    c.loop-at-test.true c.decoded_at.ensures c.in-Found.is in
-    omega (arith, turn)
+    omega (arith, step _ _ _ _ _ c.loop-at-test.true c.decoded_at.ensures c.in-Ok.is)
 
 pub overflow_add-n : goal.overflow_add-n
 overflow_add-n c =
-    let turn : Step c.args.code.now c.loop-at.at c.in-Found.i c.in-Found.k = step c.args.code.now c.loop-at.at c.in-Found.i c.in-Found.k c.decoded_at.result
-    c.loop-at-test.true c.decoded_at.ensures c.in-Found.is in
-    omega (arith, turn)
+    omega (arith, step _ _ _ _ _ c.loop-at-test.true c.decoded_at.ensures c.in-Ok.is)
 
 pub overflow_add-at : goal.overflow_add-at
 overflow_add-at c =
-    let turn : Step c.args.code.now c.loop-at.at c.in-Found.i c.in-Found.k = step c.args.code.now c.loop-at.at c.in-Found.i c.in-Found.k c.decoded_at.result
-    c.loop-at-test.true c.decoded_at.ensures c.in-Found.is in
-    omega (arith, turn)
+    omega (arith, step _ _ _ _ _ c.loop-at-test.true c.decoded_at.ensures c.in-Ok.is)
 
 pub loop-at-smaller : goal.loop-at-smaller
 loop-at-smaller c =
-    let turn : Step c.args.code.now c.loop-at.at c.in-Found.i c.in-Found.k = step c.args.code.now c.loop-at.at c.in-Found.i c.in-Found.k c.decoded_at.result
-    c.loop-at-test.true c.decoded_at.ensures c.in-Found.is in
-    omega (arith, turn)
+    omega (arith, step _ _ _ _ _ c.loop-at-test.true c.decoded_at.ensures c.in-Ok.is)
 
 pub loop-at-preserved : goal.loop-at-preserved
 loop-at-preserved c =
-    let turn : Step c.args.code.now c.loop-at.at c.in-Found.i c.in-Found.k = step c.args.code.now c.loop-at.at c.in-Found.i c.in-Found.k c.decoded_at.result
-    c.loop-at-test.true c.decoded_at.ensures c.in-Found.is in
-    omega (arith, turn)
+    omega (arith, step _ _ _ _ _ c.loop-at-test.true c.decoded_at.ensures c.in-Ok.is)
 
-pub returns-in-Refused : goal.returns-in-Refused
+pub returns-in-Err : goal.returns-in-Err
 unfolding refused_line
-returns-in-Refused c =
-    let e = left_refused c.args.code.now c.loop-at.at c.in-Refused.field-0 c.decoded_at.result c.loop-at-test.true c.decoded_at.ensures c.in-Refused.is in
+returns-in-Err c =
+    let e = left_refused c.args.code.now c.loop-at.at c.in-Err.field-0 c.decoded_at.result c.loop-at-test.true c.decoded_at.ensures c.in-Err.is in
     omega (arith, ap length e)
 
 pub returns : goal.returns

@@ -16,15 +16,15 @@ pub returns-then-x-y : goal.returns-then-x-y
 returns-then-x-y c =
     let a = c.args in
     let r = c.ranges in
-    distance a.x a.y a.most c.magnitude-m.result c.magnitude-n.result c.least-p.result c.requires.0 c.requires.1
-    c.magnitude-m.ensures c.magnitude-n.ensures c.least-p.ensures
+    distance a.x a.y a.most c.magnitude-m.result c.magnitude-n.result c.min-p.result c.requires.0 c.requires.1
+    c.magnitude-m.ensures c.magnitude-n.ensures c.min-p.ensures
     ∙ sym (alike a.x a.y a.most r.x.fits r.y.fits r.most.fits c.if-x-y.true)
 
 pub returns-else-x-y : goal.returns-else-x-y
 returns-else-x-y c =
     let a = c.args in
     let r = c.ranges in
-    let d = distance a.x a.y a.most c.magnitude-m.result c.magnitude-n.result c.least-p.result c.requires.0 c.requires.1
-    c.magnitude-m.ensures c.magnitude-n.ensures c.least-p.ensures in
-    omega (arith, d, c.wrapping_sub_u64.ensures.value)
+    let d = distance a.x a.y a.most c.magnitude-m.result c.magnitude-n.result c.min-p.result c.requires.0 c.requires.1
+    c.magnitude-m.ensures c.magnitude-n.ensures c.min-p.ensures in
+    omega (arith, d, c.wrapping_neg.ensures)
     ∙ sym (unlike a.x a.y a.most r.x.fits r.y.fits r.most.fits c.if-x-y.false)

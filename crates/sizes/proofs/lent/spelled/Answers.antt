@@ -1,4 +1,0 @@
-use Rattle.sizes.proofs.lent.spelled.Goals as goal
-
-pub returns : goal.returns
-returns c = cc
