@@ -17,7 +17,7 @@ pub fn count(n: usize) -> i32
 pub fn refused(r: Refusal) -> i32
     ensures { result ≡ refused_by r }
 {
-    -(isa::answer::number(r) as i32)
+    -i32::from(isa::answer::number(r))
 }
 
 pub fn encoded(e: Result<usize, Refusal>) -> i32

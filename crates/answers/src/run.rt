@@ -30,7 +30,7 @@ pub fn bytes(a: Answer) -> [u8; 24]
 {
     let e = a.ending;
     let n = bits::bytes_of(a.steps as u64);
-    let m = bits::bytes_of(a.mask as u64);
+    let m = bits::bytes_of(u64::from(a.mask));
     let p = bits::bytes_of(a.address as u64);
     [
         ending_number(e),

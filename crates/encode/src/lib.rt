@@ -39,8 +39,6 @@ pub fn encode_form(form: &[u8], out: &mut [u8]) -> Result<usize, Refusal>
     ensures { (result ≡ encoded_from form.now out.old)
         × (out.new ≡ left_from form.now out.old) }
 {
-    match form::from_bytes(form) {
-        Some(i) => encode(i, out),
-        None => Err(Refusal::NoEncoding),
-    }
+    let i = form::from_bytes(form).ok_or(Refusal::NoEncoding)?;
+    encode(i, out)
 }

@@ -22,9 +22,9 @@ fn destination_number(d: Destination) -> u64
     ensures { result ≡ dst_number d }
 {
     match d {
-        Destination::Half(x) => x as u64,
-        Destination::Register(r) => 2 * (r as u64),
-        Destination::Pair(r) => 2 * (r as u64) + 1,
+        Destination::Half(x) => u64::from(x),
+        Destination::Register(r) => 2 * u64::from(r),
+        Destination::Pair(r) => 2 * u64::from(r) + 1,
     }
 }
 
@@ -53,13 +53,13 @@ fn source_number(s: Source) -> u64
     ensures { result ≡ src_number s }
 {
     match s {
-        Source::Half(x) => x as u64,
-        Source::Register(r) => 2 * (r as u64),
-        Source::Pair(r) => 2 * (r as u64),
-        Source::UniformHalf(x) => (x as u64) % 256,
-        Source::UniformRegister(r) => 2 * (r as u64) % 256,
-        Source::UniformPair(r) => (2 * (r as u64) + 1) % 256,
-        Source::Immediate(x) => x as u64,
+        Source::Half(x) => u64::from(x),
+        Source::Register(r) => 2 * u64::from(r),
+        Source::Pair(r) => 2 * u64::from(r),
+        Source::UniformHalf(x) => u64::from(x) % 256,
+        Source::UniformRegister(r) => 2 * u64::from(r) % 256,
+        Source::UniformPair(r) => (2 * u64::from(r) + 1) % 256,
+        Source::Immediate(x) => u64::from(x),
     }
 }
 
@@ -70,9 +70,9 @@ fn source_flags(s: Source, h: Hint) -> u64
         Source::Half(_) => hint_bits(h),
         Source::Register(_) => 8 + hint_bits(h),
         Source::Pair(_) => 12 + hint_bits(h),
-        Source::UniformHalf(x) => 4 + (x as u64) / 256,
-        Source::UniformRegister(r) => 6 + 2 * (r as u64) / 256,
-        Source::UniformPair(r) => 6 + (2 * (r as u64) + 1) / 256,
+        Source::UniformHalf(x) => 4 + u64::from(x) / 256,
+        Source::UniformRegister(r) => 6 + 2 * u64::from(r) / 256,
+        Source::UniformPair(r) => 6 + (2 * u64::from(r) + 1) / 256,
         Source::Immediate(_) => 0,
     }
 }

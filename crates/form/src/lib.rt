@@ -30,9 +30,7 @@ pub fn of_parts(p: Parts) -> [u8; 48]
 pub fn from_bytes(b: &[u8]) -> Option<Instruction>
     ensures { result ≡ spelled_of b.now }
 {
-    let Ok(form) = <&[u8; 48]>::try_from(b) else {
-        return None;
-    };
+    let form = <&[u8; 48]>::try_from(b).ok()?;
     let kind = form[0];
     if kind == 0 || 22 < kind {
         return None;

@@ -45,7 +45,7 @@ fn source_from(k: u8, x: u8, hi: u8) -> Source
     match k {
         2 => Source::Register(x),
         3 => Source::Pair(x),
-        4 => Source::UniformHalf((x as u16) + 256 * (hi as u16)),
+        4 => Source::UniformHalf(u16::from(x) + 256 * u16::from(hi)),
         5 => Source::UniformRegister(x),
         6 => Source::UniformPair(x),
         7 => Source::Immediate(x),

@@ -5,7 +5,6 @@ ghost use Rattle.std.specs.Prelude.{◌≡◌, pos, neg_ℤ};
 ghost use Rattle.hexrow.specs.Row.{fault_number};
 ghost use Rattle.hexcalls.specs.Calls.{row_told, ReadsHex, WritesHex};
 
-use bits::piece;
 use hexfile::ReadError;
 use hexrow::Fault;
 
@@ -24,11 +23,9 @@ fn refused(f: Fault) -> i32
 fn tell(row: &mut [u8], k: usize)
     ensures { row.new ≡ row_told k row.old }
 {
-    if row.len() < 8 {
-        return;
+    if let Some(room) = row.first_chunk_mut::<8>() {
+        *room = bits::bytes_of(k as u64);
     }
-    let bytes = bits::bytes_of(k as u64);
-    piece::put(row, 0, &bytes);
 }
 
 // The kernel of a text at the start of a buffer, and its length. Refused, the buffer is untouched; the number of a bad row is told.

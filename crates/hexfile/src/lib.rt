@@ -26,10 +26,7 @@ pub fn read(text: &[u8], out: &mut [u8]) -> Result<usize, ReadError>
         × (out.new ≡ kernel_left text.now out.old) }
 {
     let n = walks::check(text)?;
-    if LIMIT < n {
-        return Err(ReadError::BadSize);
-    }
-    if out.len() < n {
+    if LIMIT < n || out.len() < n {
         return Err(ReadError::BadSize);
     }
     walks::fill(text, out);

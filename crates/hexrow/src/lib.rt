@@ -27,10 +27,7 @@ fn size_at(text: &[u8], at: usize) -> Option<usize>
     requires { at ≤ length text.now }
     ensures { result ≡ counted (size_by (drop at text.now)) }
 {
-    if text.len() - at < 11 {
-        return None;
-    }
-    if text[at] != b':' {
+    if text.len() - at < 11 || text[at] != b':' {
         return None;
     }
     let body = 2 * hexpairs::pair_at(text, at + 1)? as usize + 11;
@@ -43,15 +40,9 @@ pub fn row_at(text: &[u8], at: usize, next: usize) -> Result<Row, Fault>
     requires { at ≤ length text.now }
     ensures { result ≡ row_at next (drop at text.now) }
 {
-    let Some(size) = size_at(text, at) else {
-        return Err(Fault::Form);
-    };
-    let Some(count) = hexpairs::pair_at(text, at + 1) else {
-        return Err(Fault::Form);
-    };
-    let Some(sum) = hexpairs::sum(text, at + 1, count as usize + 5) else {
-        return Err(Fault::Form);
-    };
+    let size = size_at(text, at).ok_or(Fault::Form)?;
+    let count = hexpairs::pair_at(text, at + 1).ok_or(Fault::Form)?;
+    let sum = hexpairs::sum(text, at + 1, count as usize + 5).ok_or(Fault::Form)?;
     if sum != 0 {
         return Err(Fault::Sum);
     }

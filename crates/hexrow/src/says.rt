@@ -14,19 +14,9 @@ pub fn says(
 ) -> Result<Row, Fault>
     ensures { result ≡ says_by kind address count next size }
 {
-    if kind == 0 {
-        if address == next {
-            return Ok(Row::Data { count, size });
-        }
-        return Err(Fault::Order);
-    }
-    if kind != 1 {
-        return Err(Fault::Order);
-    }
-    if address != 0 {
-        return Err(Fault::Order);
-    }
-    if count == 0 {
+    if kind == 0 && address == next {
+        Ok(Row::Data { count, size })
+    } else if kind == 1 && address == 0 && count == 0 {
         Ok(Row::End { size })
     } else {
         Err(Fault::Order)

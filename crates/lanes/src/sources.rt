@@ -41,7 +41,7 @@ fn pairs(file: &[u32], r: u8) -> [u64; 32]
 fn uniform(uniforms: &[u32], i: usize) -> u32
     ensures { result ≡ get_or uniforms.now i 0 }
 {
-    if i < uniforms.len() { uniforms[i] } else { 0 }
+    uniforms.get(i).copied().unwrap_or(0)
 }
 
 fn uniform_half(uniforms: &[u32], h: u16) -> u64

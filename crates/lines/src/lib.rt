@@ -12,6 +12,7 @@ use isa::answer;
 use isa::answer::Refusal;
 
 // How long the line of an instruction of k bytes is, by the place of its diagram in the list.
+// A place is a number, as in the definition `tail_at`: the place in the list of the document.
 pub fn line_length(place: usize, k: usize) -> usize
     requires { (place < 22) × (k ≤ 8) }
     ensures { (result ≡ 5 + 2 * k + length (tail_at place)) × (result ≤ 36) }

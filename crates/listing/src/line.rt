@@ -13,6 +13,7 @@ pub fn line_length(i: Instruction, k: usize) -> usize
     lines::line_length(parts::place(i), k)
 }
 
+// A place in a lent buffer, since the caller lends all the room at once: no heap, and `sets` in the clause is of the whole buffer.
 pub fn put_line(text: &mut [u8], n: usize, at: usize, bytes: &[u8], i: Instruction)
     requires { (n + (5 + 2 * length bytes.now + length (tail_at (place_of i))) ≤ length text.old) × (at < 65536) }
     ensures { text.new ≡ sets text.old n (line_of at bytes.now i) }

@@ -2,6 +2,7 @@
 use isa::answer::Refusal;
 
 // How a run ended. Refused has the number of specs/Refusal.antt of the instruction set.
+// Three ways to end, which have numbers: no Result.
 #[derive(Clone, Copy)]
 pub enum Ending {
     Finished,

@@ -30,6 +30,7 @@ fn halves(marks: &[u8], h: usize, n: usize, who: u32) -> bool
     false
 }
 
+// The arms of marksets::source, which sets and asks nothing: a range of halves for both would be empty for uniforms and immediates.
 fn source(marks: &[u8], s: Source, who: u32) -> bool
     requires { 64 * source_reach s ≤ length marks.now }
     ensures { result ≡ halves_marked marks.now who (source_halves s) }
@@ -38,10 +39,10 @@ fn source(marks: &[u8], s: Source, who: u32) -> bool
         Source::Half(h) => halves(marks, usize::from(h), 1, who),
         Source::Register(r) => halves(marks, 2 * usize::from(r), 2, who),
         Source::Pair(r) => halves(marks, 2 * usize::from(r), 4, who),
-        Source::UniformHalf(_) => false,
-        Source::UniformRegister(_) => false,
-        Source::UniformPair(_) => false,
-        Source::Immediate(_) => false,
+        Source::UniformHalf(_)
+        | Source::UniformRegister(_)
+        | Source::UniformPair(_)
+        | Source::Immediate(_) => false,
     }
 }
 
@@ -50,12 +51,8 @@ fn input(marks: &[u8], x: Input, who: u32) -> bool
     ensures { result ≡ halves_marked marks.now who (input_halves x) }
 {
     match x {
-        Input::Nothing => false,
-        Input::Operand(a) => {
-            let s = a.source;
-            source(marks, s, who)
-        }
-        Input::Special(_) => false,
+        Input::Operand(a) => source(marks, a.source, who),
+        Input::Nothing | Input::Special(_) => false,
     }
 }
 
@@ -66,13 +63,7 @@ pub fn data(marks: &[u8], a: Input, b: Input, c: Input, mask: u32) -> bool
     requires { (64 * input_reach a ≤ length marks.now) × (64 * input_reach b ≤ length marks.now) × (64 * input_reach c ≤ length marks.now) }
     ensures { result ≡ data_reads marks.now a b c mask }
 {
-    if input(marks, a, mask) {
-        return true;
-    }
-    if input(marks, b, mask) {
-        return true;
-    }
-    input(marks, c, mask)
+    input(marks, a, mask) || input(marks, b, mask) || input(marks, c, mask)
 }
 
 // ---- mask instructions: r0l by all threads, A and B by those that compare
@@ -102,24 +93,16 @@ fn compared(marks: &[u8], operation: Operation, a: Input, b: Input, registers: &
     requires { (32 ≤ length registers.now) × (64 * input_reach a ≤ length marks.now) × (64 * input_reach b ≤ length marks.now) }
     ensures { result ≡ compared_reads marks.now (compares_by operation) a b registers.now }
 {
-    if !input(marks, a, ALL) {
-        if !input(marks, b, ALL) {
-            return false;
-        }
+    if !input(marks, a, ALL) && !input(marks, b, ALL) {
+        return false;
     }
     let who = comparing(operation, registers);
-    if input(marks, a, who) {
-        return true;
-    }
-    input(marks, b, who)
+    input(marks, a, who) || input(marks, b, who)
 }
 
 pub fn masked(marks: &[u8], operation: Operation, a: Input, b: Input, registers: &[u32]) -> bool
     requires { (32 ≤ length registers.now) × (32 ≤ length marks.now) × (64 * input_reach a ≤ length marks.now) × (64 * input_reach b ≤ length marks.now) }
     ensures { result ≡ mask_reads marks.now (compares_by operation) a b registers.now }
 {
-    if halves(marks, 0, 1, ALL) {
-        return true;
-    }
-    compared(marks, operation, a, b, registers)
+    halves(marks, 0, 1, ALL) || compared(marks, operation, a, b, registers)
 }

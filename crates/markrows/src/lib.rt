@@ -35,6 +35,7 @@ pub fn any(marks: &[u8], h: usize, n: usize) -> bool
 }
 
 // Whether any of some threads, a bit each, has half h marked.
+// That the row of half h is lent is asked of each: a type of 32 marks would be built for one call.
 pub fn marked_by(marks: &[u8], h: usize, who: u32) -> bool
     requires { 32 * (h + 1) ≤ length marks.now }
     ensures { result ≡ row_marked_by marks.now h who }
@@ -62,6 +63,7 @@ pub fn set(marks: &mut [u8], h: usize, who: u32, v: u8)
 }
 
 // The marks of half h become v, in all threads.
+// All marks are lent, and not the row alone: the clause is of them all.
 pub fn fill(marks: &mut [u8], h: usize, v: u8)
     requires { 32 * (h + 1) ≤ length marks.old }
     ensures { marks.new ≡ row_set h 4294967295 v marks.old }

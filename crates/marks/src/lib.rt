@@ -57,16 +57,9 @@ pub fn step(action: Action, quiet: bool, registers: &[u32], marks: &mut [u8], ma
     if quiet {
         return false;
     }
-    let kind = action.kind;
-    let d = action.d;
-    let a = action.a;
-    let b = action.b;
-    let c = action.c;
-    let operation = action.operation;
-    match kind {
-        Kind::Writes => data(d, a, b, c, marks, mask),
-        Kind::Masks => masked(operation, a, b, registers, marks),
-        Kind::JumpsIfAny => false,
-        Kind::JumpsIfNone => false,
+    match action.kind {
+        Kind::Writes => data(action.d, action.a, action.b, action.c, marks, mask),
+        Kind::Masks => masked(action.operation, action.a, action.b, registers, marks),
+        Kind::JumpsIfAny | Kind::JumpsIfNone => false,
     }
 }

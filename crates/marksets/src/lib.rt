@@ -13,16 +13,16 @@ use markrows::ALL;
 
 // ---- the marks of some halves become v, in some threads, a bit each
 
-// Mostly all threads are meant.
+// Mostly all threads are meant. All marks are lent, and not the row alone: the clause is of them all.
 fn half(marks: &mut [u8], h: usize, who: u32, v: u8)
     requires { 32 * (h + 1) ≤ length marks.old }
     ensures { marks.new ≡ halves_set (halves_from h 1) who v marks.old }
 {
     if who == ALL {
         markrows::fill(marks, h, v);
-        return;
+    } else {
+        markrows::set(marks, h, who, v);
     }
-    markrows::set(marks, h, who, v);
 }
 
 // Those of n halves, from h on.
@@ -46,10 +46,10 @@ fn source(marks: &mut [u8], s: Source, who: u32)
         Source::Half(h) => halves(marks, usize::from(h), 1, who, 1),
         Source::Register(r) => halves(marks, 2 * usize::from(r), 2, who, 1),
         Source::Pair(r) => halves(marks, 2 * usize::from(r), 4, who, 1),
-        Source::UniformHalf(_) => {}
-        Source::UniformRegister(_) => {}
-        Source::UniformPair(_) => {}
-        Source::Immediate(_) => {}
+        Source::UniformHalf(_)
+        | Source::UniformRegister(_)
+        | Source::UniformPair(_)
+        | Source::Immediate(_) => {}
     }
 }
 
@@ -57,21 +57,14 @@ fn discard(marks: &mut [u8], x: Input, who: u32)
     requires { 64 * input_reach x ≤ length marks.old }
     ensures { marks.new ≡ halves_set (input_discards x) who 1 marks.old }
 {
-    match x {
-        Input::Nothing => {}
-        Input::Operand(a) => {
-            let s = a.source;
-            let hint = a.hint;
-            match hint {
-                Hint::None => {}
-                Hint::Cache => {}
-                Hint::Discard => source(marks, s, who),
-            }
-        }
-        Input::Special(_) => {}
+    if let Input::Operand(a) = x
+        && let Hint::Discard = a.hint
+    {
+        source(marks, a.source, who);
     }
 }
 
+// A match of its own: to make a `Source` of a `Destination`, for `source` to do both, is the same match.
 fn destination(marks: &mut [u8], d: Destination, who: u32)
     requires { 64 * destination_reach d ≤ length marks.old }
     ensures { marks.new ≡ halves_set (destination_halves d) who 0 marks.old }

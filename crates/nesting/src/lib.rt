@@ -24,6 +24,7 @@ fn rank(x: u64, signed: u8, size: u8) -> u64
     }
 }
 
+// The relation is two bits of cc, which is a number as the diagram has it.
 fn compared(relation: u8, x: u64, y: u64) -> bool
     ensures { result ≡ meaning.compared relation (pos x) (pos y) }
 {

@@ -42,13 +42,6 @@ fn bare(kind: u8, kept: u64) -> Parts
         hint: 0,
         number: 0,
     };
-    let signs = no_signs();
-    let truth = no_truth();
-    let condition = Condition {
-        cc: 0,
-        ccn: 0,
-        n: 0,
-    };
     Parts {
         kind,
         d: none,
@@ -58,9 +51,13 @@ fn bare(kind: u8, kept: u64) -> Parts
         immediate: 0,
         l: 0,
         m: 0,
-        signs,
-        truth,
-        condition,
+        signs: no_signs(),
+        truth: no_truth(),
+        condition: Condition {
+            cc: 0,
+            ccn: 0,
+            n: 0,
+        },
         kept,
     }
 }
@@ -68,111 +65,100 @@ fn bare(kind: u8, kept: u64) -> Parts
 pub fn of_dst(kind: u8, d: Dst, immediate: u32, l: u8, kept: u64) -> Parts
     ensures { result ≡ of_dst kind d immediate l kept }
 {
-    let mut p = bare(kind, kept);
-    p.d = dst_slot(d);
-    p.immediate = immediate;
-    p.l = l;
-    p
+    Parts {
+        d: dst_slot(d),
+        immediate,
+        l,
+        ..bare(kind, kept)
+    }
 }
 
 fn of_unary(kind: u8, o: Unary, kept: u64) -> Parts
     ensures { result ≡ of_unary kind o kept }
 {
-    let d = o.d;
-    let a = o.a;
-    let mut p = bare(kind, kept);
-    p.d = dst_slot(d);
-    p.a = src_slot(a);
-    p
+    Parts {
+        d: dst_slot(o.d),
+        a: src_slot(o.a),
+        ..bare(kind, kept)
+    }
 }
 
 pub fn of_binary(kind: u8, o: Binary, signs: Signs, truth: Truth, kept: u64) -> Parts
     ensures { result ≡ of_binary kind o signs truth kept }
 {
-    let d = o.d;
-    let a = o.a;
-    let b = o.b;
-    let mut p = bare(kind, kept);
-    p.d = dst_slot(d);
-    p.a = src_slot(a);
-    p.b = src_slot(b);
-    p.signs = signs;
-    p.truth = truth;
-    p
+    Parts {
+        d: dst_slot(o.d),
+        a: src_slot(o.a),
+        b: src_slot(o.b),
+        signs,
+        truth,
+        ..bare(kind, kept)
+    }
 }
 
 pub fn of_ternary(kind: u8, o: Ternary, m: u8, signs: Signs, kept: u64) -> Parts
     ensures { result ≡ of_ternary kind o m signs kept }
 {
-    let d = o.d;
-    let a = o.a;
-    let b = o.b;
-    let c = o.c;
-    let mut p = bare(kind, kept);
-    p.d = dst_slot(d);
-    p.a = src_slot(a);
-    p.b = src_slot(b);
-    p.c = src_slot(c);
-    p.m = m;
-    p.signs = signs;
-    p
+    Parts {
+        d: dst_slot(o.d),
+        a: src_slot(o.a),
+        b: src_slot(o.b),
+        c: src_slot(o.c),
+        m,
+        signs,
+        ..bare(kind, kept)
+    }
 }
 
 pub fn of_jump(kind: u8, off: u32) -> Parts
     ensures { result ≡ of_jump kind off }
 {
-    let mut p = bare(kind, 0);
-    p.immediate = off;
-    p
+    Parts {
+        immediate: off,
+        ..bare(kind, 0)
+    }
 }
 
 pub fn of_pop(kind: u8, h: Hint, n: u8, kept: u64) -> Parts
     ensures { result ≡ of_pop kind h n kept }
 {
-    let condition = Condition { cc: 0, ccn: 0, n };
-    let mut p = bare(kind, kept);
-    p.d = hint_slot(h);
-    p.condition = condition;
-    p
+    Parts {
+        d: hint_slot(h),
+        condition: Condition { cc: 0, ccn: 0, n },
+        ..bare(kind, kept)
+    }
 }
 
 pub fn of_compare(kind: u8, x: Compare) -> Parts
     ensures { result ≡ of_compare kind x }
 {
-    let h = x.hint;
-    let o = x.operands;
-    let a = o.a;
-    let b = o.b;
-    let condition = Condition {
-        cc: x.cc,
-        ccn: x.ccn,
-        n: x.n,
-    };
-    let mut p = bare(kind, x.kept);
-    p.d = hint_slot(h);
-    p.a = src_slot(a);
-    p.b = src_slot(b);
-    p.condition = condition;
-    p
+    Parts {
+        d: hint_slot(x.hint),
+        a: src_slot(x.operands.a),
+        b: src_slot(x.operands.b),
+        condition: Condition {
+            cc: x.cc,
+            ccn: x.ccn,
+            n: x.n,
+        },
+        ..bare(kind, x.kept)
+    }
 }
 
 pub fn of_bitfield(kind: u8, x: Bitfield) -> Parts
     ensures { result ≡ of_bitfield kind x }
 {
-    let o = x.operands;
-    of_ternary(kind, o, x.m, no_signs(), x.kept)
+    of_ternary(kind, x.operands, x.m, no_signs(), x.kept)
 }
 
 pub fn of_shift(kind: u8, x: Shift) -> Parts
     ensures { result ≡ of_shift kind x }
 {
-    let o = x.operands;
-    of_binary(kind, o, no_signs(), no_truth(), x.kept)
+    of_binary(kind, x.operands, no_signs(), no_truth(), x.kept)
 }
 
 pub fn of_scan(kind: u8, x: Scan) -> Parts
     ensures { result ≡ of_scan kind x }
 {
-    let o = x.operands;
-    of_unary(kind, o, x.kept)
+    of_unary(kind, x.operands, x.kept)
 }

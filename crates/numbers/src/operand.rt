@@ -25,9 +25,9 @@ fn destination_slot(x: Destination, h: u8) -> Slot
     ensures { result ≡ destination_slot x h }
 {
     match x {
-        Destination::Half(n) => slot(1, h, n as u16),
-        Destination::Register(n) => slot(2, h, n as u16),
-        Destination::Pair(n) => slot(3, h, n as u16),
+        Destination::Half(n) => slot(1, h, u16::from(n)),
+        Destination::Register(n) => slot(2, h, u16::from(n)),
+        Destination::Pair(n) => slot(3, h, u16::from(n)),
     }
 }
 
@@ -35,13 +35,13 @@ fn source_slot(x: Source, h: u8) -> Slot
     ensures { result ≡ source_slot x h }
 {
     match x {
-        Source::Half(n) => slot(1, h, n as u16),
-        Source::Register(n) => slot(2, h, n as u16),
-        Source::Pair(n) => slot(3, h, n as u16),
+        Source::Half(n) => slot(1, h, u16::from(n)),
+        Source::Register(n) => slot(2, h, u16::from(n)),
+        Source::Pair(n) => slot(3, h, u16::from(n)),
         Source::UniformHalf(n) => slot(4, h, n),
-        Source::UniformRegister(n) => slot(5, h, n as u16),
-        Source::UniformPair(n) => slot(6, h, n as u16),
-        Source::Immediate(n) => slot(7, h, n as u16),
+        Source::UniformRegister(n) => slot(5, h, u16::from(n)),
+        Source::UniformPair(n) => slot(6, h, u16::from(n)),
+        Source::Immediate(n) => slot(7, h, u16::from(n)),
     }
 }
 
@@ -49,17 +49,13 @@ fn source_slot(x: Source, h: u8) -> Slot
 pub fn dst_slot(d: Dst) -> Slot
     ensures { result ≡ dst_slot d }
 {
-    let x = d.destination;
-    let h = d.hint;
-    destination_slot(x, hint_number(h))
+    destination_slot(d.destination, hint_number(d.hint))
 }
 
 pub fn src_slot(s: Src) -> Slot
     ensures { result ≡ src_slot s }
 {
-    let x = s.source;
-    let h = s.hint;
-    source_slot(x, hint_number(h))
+    source_slot(s.source, hint_number(s.hint))
 }
 
 // No operand, but the hint of r0l

@@ -17,9 +17,9 @@ pub fn parts_of(i: Instruction) -> Parts
     ensures { result ≡ parts_of i }
 {
     match i {
-        Instruction::Mov16 { d, imm16, l, kept } => of_dst(1, d, imm16 as u32, l, kept),
+        Instruction::Mov16 { d, imm16, l, kept } => of_dst(1, d, u32::from(imm16), l, kept),
         Instruction::Mov32 { d, imm32, l, kept } => of_dst(2, d, imm32, l, kept),
-        Instruction::GetSr { d, sr, kept } => of_dst(3, d, sr as u32, 0, kept),
+        Instruction::GetSr { d, sr, kept } => of_dst(3, d, u32::from(sr), 0, kept),
         Instruction::Iadd {
             operands,
             saturate,
@@ -94,7 +94,7 @@ pub fn place(i: Instruction) -> usize
     ensures { result ≡ place_of i }
 {
     let p = parts_of(i);
-    (p.kind as usize) - 1
+    usize::from(p.kind) - 1
 }
 
 // Whether two instructions are the same: all their numbers are.

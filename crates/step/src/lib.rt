@@ -83,6 +83,7 @@ pub fn step(
         × (rows.new ≡ rows_left result plan.now.task (tables_of tables.entry) registers.old rows.old)
         × KeptIf quiet marks.old marks.new }
 {
+    // `plan.task?` would copy the task; by reference it needs `as_ref` and a `map_err`, which is no plainer.
     match &plan.task {
         Ok(task) => take(
             task,

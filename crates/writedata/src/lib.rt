@@ -19,18 +19,18 @@ pub fn word_iadd(o: Binary, signs: Signs, kept: u64) -> u64
     let d = of_dst(o.d);
     let a = of_src(o.a);
     let b = of_src(o.b);
-    let shift = signs.shift as u64;
+    let shift = u64::from(signs.shift);
     kept | value_at(3)
-        | (signs.saturate as u64) << 6
+        | u64::from(signs.saturate) << 6
         | d.t << 7
         | d.v % 64 << 9
         | a.v % 64 << 16
         | a.t << 22
-        | (signs.sa as u64) << 26
-        | (signs.negate as u64) << 27
+        | u64::from(signs.sa) << 26
+        | u64::from(signs.negate) << 27
         | b.v % 64 << 28
         | b.t << 34
-        | (signs.sb as u64) << 38
+        | u64::from(signs.sb) << 38
         | shift % 2 << 39
         | b.v / 64 << 40
         | a.v / 64 << 42
@@ -45,22 +45,22 @@ pub fn word_imadd(o: Ternary, signs: Signs, kept: u64) -> u64
     let a = of_src(o.a);
     let b = of_src(o.b);
     let c = of_src(o.c);
-    let shift = signs.shift as u64;
+    let shift = u64::from(signs.shift);
     kept | value_at(4)
-        | (signs.saturate as u64) << 6
+        | u64::from(signs.saturate) << 6
         | d.t << 7
         | d.v % 64 << 9
         | a.v % 64 << 16
         | a.t << 22
-        | (signs.sa as u64) << 26
-        | (signs.negate as u64) << 27
+        | u64::from(signs.sa) << 26
+        | u64::from(signs.negate) << 27
         | b.v % 64 << 28
         | b.t << 34
-        | (signs.sb as u64) << 38
+        | u64::from(signs.sb) << 38
         | shift % 2 << 39
         | c.v % 64 << 40
         | c.t << 46
-        | (signs.sc as u64) << 50
+        | u64::from(signs.sc) << 50
         | shift / 2 << 52
         | c.v / 64 << 54
         | b.v / 64 << 56
@@ -76,7 +76,7 @@ pub fn word_bitfield(fixed: u64, x: Bitfield) -> u64
     let a = of_src(o.a);
     let b = of_src(o.b);
     let c = of_src(o.c);
-    let m = x.m as u64;
+    let m = u64::from(x.m);
     x.kept
         | fixed
         | d.t << 7
@@ -127,12 +127,12 @@ pub fn word_bitop(o: Binary, truth: Truth, kept: u64) -> u64
         | d.v % 64 << 9
         | a.v % 64 << 16
         | a.t << 22
-        | (truth.tt0 as u64) << 26
-        | (truth.tt1 as u64) << 27
+        | u64::from(truth.tt0) << 26
+        | u64::from(truth.tt1) << 27
         | b.v % 64 << 28
         | b.t << 34
-        | (truth.tt2 as u64) << 38
-        | (truth.tt3 as u64) << 39
+        | u64::from(truth.tt2) << 38
+        | u64::from(truth.tt3) << 39
         | b.v / 64 << 40
         | a.v / 64 << 42
         | d.v / 64 << 44

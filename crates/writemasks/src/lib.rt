@@ -14,13 +14,13 @@ use rows::value_at;
 pub fn word_jump(fixed: u64, off: u32) -> u64
     ensures { result ≡ jump_word fixed off }
 {
-    fixed | (off as u64) << 16
+    fixed | u64::from(off) << 16
 }
 
 pub fn word_pop_exec(h: Hint, n: u8, kept: u64) -> u64
     ensures { result ≡ word_for (Instruction.PopExec h n kept) }
 {
-    kept | value_at(18) | cache_bit(h) << 7 | (n as u64) << 11
+    kept | value_at(18) | cache_bit(h) << 7 | u64::from(n) << 11
 }
 
 pub fn word_compare(fixed: u64, x: Compare) -> u64
@@ -31,9 +31,9 @@ pub fn word_compare(fixed: u64, x: Compare) -> u64
     x.kept
         | fixed
         | cache_bit(x.hint) << 7
-        | (x.ccn as u64) << 8
-        | (x.n as u64) << 11
-        | (x.cc as u64) << 13
+        | u64::from(x.ccn) << 8
+        | u64::from(x.n) << 11
+        | u64::from(x.cc) << 13
         | a.v % 64 << 16
         | a.t << 22
         | b.v % 64 << 28

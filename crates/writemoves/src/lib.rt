@@ -18,8 +18,8 @@ pub fn word_mov16(d: Dst, imm16: u16, l: u8, kept: u64) -> u64
     kept | value_at(0)
         | d.t << 7
         | d.v % 64 << 9
-        | (l as u64) << 15 // L, the bit of the long form
-        | (imm16 as u64) << 16
+        | u64::from(l) << 15 // L, the bit of the long form
+        | u64::from(imm16) << 16
         | d.v / 64 << 44
 }
 
@@ -30,8 +30,8 @@ pub fn word_mov32(d: Dst, imm32: u32, l: u8, kept: u64) -> u64
     kept | value_at(1)
         | d.t << 7
         | d.v % 64 << 9
-        | (l as u64) << 15
-        | (imm32 as u64) << 16
+        | u64::from(l) << 15
+        | u64::from(imm32) << 16
         | d.v / 64 << 60
 }
 
@@ -39,6 +39,6 @@ pub fn word_get_sr(d: Dst, sr: u8, kept: u64) -> u64
     ensures { result ≡ word_for (Instruction.GetSr d sr kept) }
 {
     let d = of_dst(d);
-    let sr = sr as u64;
+    let sr = u64::from(sr);
     kept | value_at(2) | d.t << 7 | d.v % 64 << 9 | sr % 64 << 16 | sr / 64 << 26 | d.v / 64 << 28
 }

@@ -1,20 +1,15 @@
 -- Eight bytes at the start of a buffer that has them.
-use mathlib.Core.Path.{ap, ◌∙◌}
-use lib.ListN.{length}
-use lib.Seq.{sets}
-use native.Mathlib.Omega.{arith}
+use mathlib.Core.Path.{ap}
+use mathlib.Core.List.{List, ◌++◌}
+use Prim.Native.Nat.{ℕ}
+use lib.ListN.{length, drop}
 use borrow.Author.Tests.{le-leb, lt-leb}
-use Rattle.bits.specs.Word.{bytes_of}
-use Rattle.bits.proofs.Laws.{length-bytes_of}
-use Rattle.bits.proofs.Pieces.{put_first}
 use Rattle.hexcalls.proofs.tell.Goals as goal
 
-pub returns-then-row-lt8 : goal.returns-then-row-lt8
-returns-then-row-lt8 c = rw (lt-leb 8 (length c.args.row.now) (omega arith))
+pub returns-in_default : goal.returns-in_default
+returns-in_default c = rw (lt-leb 8 (length c.args.row.now) c.in_default.ensures.cases)
 
-pub returns : goal.returns
-returns c =
-    rw (le-leb 8 (length c.args.row.now) c.if-row-lt8.false)
-    (c.put.ensures
-    ∙ ap (sets c.args.row.now 0) c.bytes_of-bytes.ensures
-    ∙ put_first c.args.row.now (bytes_of 8 c.args.k) 8 (length-bytes_of 8 c.args.k) c.if-row-lt8.false)
+pub returns-in-Some : goal.returns-in-Some
+returns-in-Some c =
+    rw (le-leb 8 (length c.args.row.now) c.in-Some.ensures.cases.enough)
+    (ap (λ (s : List ℕ). s ++ drop 8 c.args.row.now) c.bytes_of.ensures)

@@ -1,5 +1,7 @@
 -- No row, a row with characters that are no digits, one with a wrong sum, and one whose numbers decide.
-use Rattle.std.specs.Prelude.{Err, Option, Some, None}
+use Rattle.std.specs.Prelude.{Result, Ok, Err, Option, Some, None}
+use Rattle.std.specs.Option.{ok_or}
+use Rattle.std.proofs.lemmas.Result.{err_from_is_err_and}
 use mathlib.Core.Path.{◌≡◌, refl, sym, ap, ◌∙◌}
 use mathlib.Core.Bool.{Bool, true, false}
 use mathlib.Core.List.{List, [], ◌∷◌}
@@ -125,77 +127,91 @@ sum_most n s h = go (sum_told n (sum_by n s) s refl)
     go (inl p) = p.0
     go (inr p) = let q = p.0 in absurd (omega arith)
 
+seen : (o : Option ℕ) (n : ℕ) → ◌≡◌ {A = Result ℕ Fault} (Ok n) (ok_or o Fault.Form) → o ≡ Some n
+seen (Some m) n e = cc
+seen None n e = cc
+
+unseen : (o : Option ℕ) (f : Fault) → ◌≡◌ {A = Result ℕ Fault} (Err f) (ok_or o Fault.Form) → (o ≡ None) × (f ≡ Fault.Form)
+unseen (Some m) f e = cc
+unseen None f e = (refl, (cc))
+
 head_at : (t : List ℕ) → spelled 4 t ≡ pair_value t ∷ pair_value (drop 2 t) ∷ pair_value (drop 4 t) ∷ pair_value (drop 6 t) ∷ []
 unfolding spelled
 head_at t = rw (drop-drop 2 2 t, drop-drop 2 4 t)
 
-pub returns-in_default : goal.returns-in_default
-returns-in_default c =
+pub returns-in_err-size : goal.returns-in_err-size
+returns-in_err-size c =
+    let p = err_from_is_err_and c.from_residual.result c.from_residual.ensures.1 in
+    let u = unseen _ _ c.in_err-size.ensures.value in
     let s = drop c.args.at c.args.text.now in
-    no_row c.args.next s (λ r. at-sized s r (counted-none (size_by s) c.size_at.result c.size_at.ensures c.in_default.is))
+    rw (p.1, p.2, u.1) (no_row c.args.next s (λ r. at-sized s r (counted-none (size_by s) c.size_at.result c.size_at.ensures u.0)))
 
 pub pair_at-requires : goal.pair_at-requires
 pair_at-requires c =
     let a = c.args in
-    let z = counted-some (size_by (drop a.at a.text.now)) c.in-Some.size c.size_at.result c.size_at.ensures c.in-Some.is in
-    let h = within a.at a.next c.in-Some.size (pair_value (drop (a.at + 1) a.text.now)) _ a.text.now (sym z.1) refl refl (λ y. omega (arith, z.0, z.1)) in
+    let z = counted-some (size_by (drop a.at a.text.now)) c.in_ok-size.size c.size_at.result c.size_at.ensures (seen _ _ c.in_ok-size.ensures.value) in
+    let h = within a.at a.next c.in_ok-size.size (pair_value (drop (a.at + 1) a.text.now)) _ a.text.now (sym z.1) refl refl (λ y. omega (arith, z.0, z.1)) in
     omega (arith, h)
 
-pub returns-in_default-pair_at : goal.returns-in_default-pair_at
-returns-in_default-pair_at c =
+pub returns-in_err-count : goal.returns-in_err-count
+returns-in_err-count c =
+    let p = err_from_is_err_and c.from_residual-in_err-count.result c.from_residual-in_err-count.ensures.1 in
+    let u = unseen c.pair_at.result c.in_err-count.field-0.0 c.in_err-count.ensures.value in
     let a = c.args in
     let v = pair_value (drop (a.at + 1) a.text.now) in
-    let z = counted-some (size_by (drop a.at a.text.now)) c.in-Some.size c.size_at.result c.size_at.ensures c.in-Some.is in
-    let k = whole a.at a.next c.in-Some.size v _ a.text.now (sym z.1) refl refl (λ y. omega (arith, z.0, z.1)) in
-    let n = counted a.at a.next c.in-Some.size v _ a.text.now (sym z.1) refl refl in
-    absurd (omega (arith, k.few, n, byte-none v c.pair_at.result c.pair_at.ensures c.in_default-pair_at.is))
+    let z = counted-some (size_by (drop a.at a.text.now)) c.in_ok-size.size c.size_at.result c.size_at.ensures (seen _ _ c.in_ok-size.ensures.value) in
+    let k = whole a.at a.next c.in_ok-size.size v _ a.text.now (sym z.1) refl refl (λ y. omega (arith, z.0, z.1)) in
+    let n = counted a.at a.next c.in_ok-size.size v _ a.text.now (sym z.1) refl refl in
+    rw (p.1, p.2, u.1) (absurd (omega (arith, k.few, n, byte-none v c.pair_at.result c.pair_at.ensures u.0)))
 
 pub sum-requires : goal.sum-requires
 sum-requires c =
     let a = c.args in
-    let z = counted-some (size_by (drop a.at a.text.now)) c.in-Some.size c.size_at.result c.size_at.ensures c.in-Some.is in
-    let n = byte-some (pair_value (drop (a.at + 1) a.text.now)) c.in-Some-pair_at.count c.pair_at.result c.pair_at.ensures c.in-Some-pair_at.is in
-    let h = within a.at a.next c.in-Some.size c.in-Some-pair_at.count _ a.text.now (sym z.1) (sym n.1) refl (λ y. omega (arith, z.0, z.1)) in
+    let z = counted-some (size_by (drop a.at a.text.now)) c.in_ok-size.size c.size_at.result c.size_at.ensures (seen _ _ c.in_ok-size.ensures.value) in
+    let n = byte-some (pair_value (drop (a.at + 1) a.text.now)) c.in_ok-count.count c.pair_at.result c.pair_at.ensures (seen _ _ c.in_ok-count.ensures.value) in
+    let h = within a.at a.next c.in_ok-size.size c.in_ok-count.count _ a.text.now (sym z.1) (sym n.1) refl (λ y. omega (arith, z.0, z.1)) in
     omega (arith, h)
 
-pub returns-in_default-sum : goal.returns-in_default-sum
-returns-in_default-sum c =
+pub returns-in_err-sum : goal.returns-in_err-sum
+returns-in_err-sum c =
+    let p = err_from_is_err_and c.from_residual-in_err-sum.result c.from_residual-in_err-sum.ensures.1 in
+    let u = unseen _ _ c.in_err-sum.ensures.value in
     let a = c.args in
-    let z = counted-some (size_by (drop a.at a.text.now)) c.in-Some.size c.size_at.result c.size_at.ensures c.in-Some.is in
-    let n = byte-some (pair_value (drop (a.at + 1) a.text.now)) c.in-Some-pair_at.count c.pair_at.result c.pair_at.ensures c.in-Some-pair_at.is in
+    let z = counted-some (size_by (drop a.at a.text.now)) c.in_ok-size.size c.size_at.result c.size_at.ensures (seen _ _ c.in_ok-size.ensures.value) in
+    let n = byte-some (pair_value (drop (a.at + 1) a.text.now)) c.in_ok-count.count c.pair_at.result c.pair_at.ensures (seen _ _ c.in_ok-count.ensures.value) in
     let t = drop (a.at + 1) a.text.now in
-    let m = sum_most (c.in-Some-pair_at.count + 5) t (byte-none (sum_by (c.in-Some-pair_at.count + 5) t) c.sum.result c.sum.ensures c.in_default-sum.is) in
-    no-digits a.at a.next c.in-Some.size c.in-Some-pair_at.count (sum_by (c.in-Some-pair_at.count + 5) t) a.text.now (sym z.1) (sym n.1) refl m
+    let m = sum_most (c.in_ok-count.count + 5) t (byte-none (sum_by (c.in_ok-count.count + 5) t) c.sum.result c.sum.ensures u.0) in
+    rw (p.1, p.2, u.1) (no-digits a.at a.next c.in_ok-size.size c.in_ok-count.count (sum_by (c.in_ok-count.count + 5) t) a.text.now (sym z.1) (sym n.1) refl m)
 
 pub returns-then-sum-ne0 : goal.returns-then-sum-ne0
 returns-then-sum-ne0 c =
     let a = c.args in
-    let z = counted-some (size_by (drop a.at a.text.now)) c.in-Some.size c.size_at.result c.size_at.ensures c.in-Some.is in
-    let n = byte-some (pair_value (drop (a.at + 1) a.text.now)) c.in-Some-pair_at.count c.pair_at.result c.pair_at.ensures c.in-Some-pair_at.is in
-    let m = byte-some (sum_by (c.in-Some-pair_at.count + 5) (drop (a.at + 1) a.text.now)) c.in-Some-sum.sum c.sum.result c.sum.ensures c.in-Some-sum.is in
-    wrong-sum a.at a.next c.in-Some.size c.in-Some-pair_at.count c.in-Some-sum.sum a.text.now (sym z.1) (sym n.1) (sym m.1)
+    let z = counted-some (size_by (drop a.at a.text.now)) c.in_ok-size.size c.size_at.result c.size_at.ensures (seen _ _ c.in_ok-size.ensures.value) in
+    let n = byte-some (pair_value (drop (a.at + 1) a.text.now)) c.in_ok-count.count c.pair_at.result c.pair_at.ensures (seen _ _ c.in_ok-count.ensures.value) in
+    let m = byte-some (sum_by (c.in_ok-count.count + 5) (drop (a.at + 1) a.text.now)) c.in_ok-sum.sum c.sum.result c.sum.ensures (seen _ _ c.in_ok-sum.ensures.value) in
+    wrong-sum a.at a.next c.in_ok-size.size c.in_ok-count.count c.in_ok-sum.sum a.text.now (sym z.1) (sym n.1) (sym m.1)
     (λ y. omega (arith, z.0, z.1)) (λ y. omega (arith, m.0, m.1)) c.if-sum-ne0.true
 
 pub put-requires : goal.put-requires
 put-requires c =
     let a = c.args in
-    let z = counted-some (size_by (drop a.at a.text.now)) c.in-Some.size c.size_at.result c.size_at.ensures c.in-Some.is in
-    let n = byte-some (pair_value (drop (a.at + 1) a.text.now)) c.in-Some-pair_at.count c.pair_at.result c.pair_at.ensures c.in-Some-pair_at.is in
-    let m = byte-some (sum_by (c.in-Some-pair_at.count + 5) (drop (a.at + 1) a.text.now)) c.in-Some-sum.sum c.sum.result c.sum.ensures c.in-Some-sum.is in
-    let h = within a.at a.next c.in-Some.size c.in-Some-pair_at.count _ a.text.now (sym z.1) (sym n.1) refl (λ y. omega (arith, z.0, z.1)) in (
+    let z = counted-some (size_by (drop a.at a.text.now)) c.in_ok-size.size c.size_at.result c.size_at.ensures (seen _ _ c.in_ok-size.ensures.value) in
+    let n = byte-some (pair_value (drop (a.at + 1) a.text.now)) c.in_ok-count.count c.pair_at.result c.pair_at.ensures (seen _ _ c.in_ok-count.ensures.value) in
+    let m = byte-some (sum_by (c.in_ok-count.count + 5) (drop (a.at + 1) a.text.now)) c.in_ok-sum.sum c.sum.result c.sum.ensures (seen _ _ c.in_ok-sum.ensures.value) in
+    let h = within a.at a.next c.in_ok-size.size c.in_ok-count.count _ a.text.now (sym z.1) (sym n.1) refl (λ y. omega (arith, z.0, z.1)) in (
       omega arith,
       omega (arith, h),
-      first_four a.at a.next c.in-Some.size c.in-Some-pair_at.count c.in-Some-sum.sum a.text.now (sym z.1) (sym n.1) (sym m.1)
+      first_four a.at a.next c.in_ok-size.size c.in_ok-count.count c.in_ok-sum.sum a.text.now (sym z.1) (sym n.1) (sym m.1)
           (λ y. omega (arith, z.0, z.1)) (λ y. omega (arith, m.0, m.1)),
     )
 
 pub returns : goal.returns
 returns c =
     let a = c.args in
-    let z = counted-some (size_by (drop a.at a.text.now)) c.in-Some.size c.size_at.result c.size_at.ensures c.in-Some.is in
-    let n = byte-some (pair_value (drop (a.at + 1) a.text.now)) c.in-Some-pair_at.count c.pair_at.result c.pair_at.ensures c.in-Some-pair_at.is in
-    let m = byte-some (sum_by (c.in-Some-pair_at.count + 5) (drop (a.at + 1) a.text.now)) c.in-Some-sum.sum c.sum.result c.sum.ensures c.in-Some-sum.is in
+    let z = counted-some (size_by (drop a.at a.text.now)) c.in_ok-size.size c.size_at.result c.size_at.ensures (seen _ _ c.in_ok-size.ensures.value) in
+    let n = byte-some (pair_value (drop (a.at + 1) a.text.now)) c.in_ok-count.count c.pair_at.result c.pair_at.ensures (seen _ _ c.in_ok-count.ensures.value) in
+    let m = byte-some (sum_by (c.in_ok-count.count + 5) (drop (a.at + 1) a.text.now)) c.in_ok-sum.sum c.sum.result c.sum.ensures (seen _ _ c.in_ok-sum.ensures.value) in
     c.says.ensures
     ∙ rw (c.put.ensures, head_at (drop (a.at + 1) a.text.now))
-    (right_sum a.at a.next c.in-Some.size c.in-Some-pair_at.count c.in-Some-sum.sum a.text.now (sym z.1) (sym n.1) (sym m.1)
+    (right_sum a.at a.next c.in_ok-size.size c.in_ok-count.count c.in_ok-sum.sum a.text.now (sym z.1) (sym n.1) (sym m.1)
     (λ y. omega (arith, z.0, z.1)) (λ y. omega (arith, m.0, m.1)) c.if-sum-ne0.false)

@@ -16,26 +16,12 @@ returns-then-not-input-2 c =
 
 pub returns-then-input : goal.returns-then-input
 returns-then-input c =
-    either_true c.args.marks.now c.comparing-who.result (input_halves c.args.a) (input_halves c.args.b) c.input-2.ensures c.if-input.true
+    c.if-input.true
+    ∙ either_true c.args.marks.now c.comparing-who.result (input_halves c.args.a) (input_halves c.args.b) c.input-2.ensures c.if-input.true
     ∙ ap (λ (w : ℕ). halves_marked c.args.marks.now w (input_halves c.args.a ++ input_halves c.args.b)) c.comparing-who.ensures
 
-pub returns : goal.returns
-returns c =
+pub returns-else-input : goal.returns-else-input
+returns-else-input c =
     either_false c.args.marks.now c.comparing-who.result (input_halves c.args.a) (input_halves c.args.b) c.input-2.ensures c.if-input.false
-    c.input-3.ensures
+    c.input-else-input.ensures
     ∙ ap (λ (w : ℕ). halves_marked c.args.marks.now w (input_halves c.args.a ++ input_halves c.args.b)) c.comparing-who.ensures
-
-pub input-requires : goal.input-requires
-input-requires c = c.requires.1
-
-pub input-requires-then-not-input : goal.input-requires-then-not-input
-input-requires-then-not-input c = c.requires.2
-
-pub comparing-who-requires : goal.comparing-who-requires
-comparing-who-requires c = c.requires.0
-
-pub input-requires-2 : goal.input-requires-2
-input-requires-2 c = c.requires.1
-
-pub input-requires-3 : goal.input-requires-3
-input-requires-3 c = c.requires.2

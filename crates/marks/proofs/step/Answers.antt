@@ -1,6 +1,7 @@
 -- By the kind of the action.
 use mathlib.Core.Path.{refl}
 use mathlib.Core.Bool.{true, false}
+use mathlib.Core.Logic.{inl, inr}
 use native.Mathlib.Omega.{arith}
 use Rattle.machine.specs.Integer.{sign_extend}
 use Rattle.operations.specs.Operation.{result_by, compares_by}
@@ -38,8 +39,7 @@ returns-in-Masks c =
 
 pub returns-in-JumpsIfAny : goal.returns-in-JumpsIfAny
 returns-in-JumpsIfAny c =
-    rw c.in-JumpsIfAny.is (of-jump true (sign_extend c.args.action.off 32) c.args.registers.now c.args.mask c.args.marks.now, λ e. refl)
-
-pub returns-in-JumpsIfNone : goal.returns-in-JumpsIfNone
-returns-in-JumpsIfNone c =
-    rw c.in-JumpsIfNone.is (of-jump false (sign_extend c.args.action.off 32) c.args.registers.now c.args.mask c.args.marks.now, λ e. refl)
+    elim c.in-JumpsIfAny.is [
+      | inl any ↦ rw any (of-jump true (sign_extend c.args.action.off 32) c.args.registers.now c.args.mask c.args.marks.now, λ e. refl)
+      | inr none ↦ rw none (of-jump false (sign_extend c.args.action.off 32) c.args.registers.now c.args.mask c.args.marks.now, λ e. refl)
+    ]

@@ -3,7 +3,7 @@ use Rattle.parts.proofs.parts_of.Goals as goal
 
 pub returns-in-Mov16 : goal.returns-in-Mov16
 unfolding parts_of
-returns-in-Mov16 c = rw c.in-Mov16.is c.of_dst.ensures
+returns-in-Mov16 c = rw c.in-Mov16.is (rw c.from.ensures at c.of_dst.ensures)
 
 pub returns-in-Mov32 : goal.returns-in-Mov32
 unfolding parts_of
@@ -11,7 +11,7 @@ returns-in-Mov32 c = rw c.in-Mov32.is c.of_dst-in-Mov32.ensures
 
 pub returns-in-GetSr : goal.returns-in-GetSr
 unfolding parts_of
-returns-in-GetSr c = rw c.in-GetSr.is c.of_dst-in-GetSr.ensures
+returns-in-GetSr c = rw c.in-GetSr.is (rw c.from-in-GetSr.ensures at c.of_dst-in-GetSr.ensures)
 
 pub returns-in-Iadd : goal.returns-in-Iadd
 unfolding parts_of

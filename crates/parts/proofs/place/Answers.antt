@@ -1,6 +1,5 @@
 -- Kinds count from 1.
 use mathlib.Core.Path.{ap}
-use Prim.Native.Nat.{◌-◌}
 use native.Mathlib.Omega.{arith}
 use Rattle.isa.specs.declared.parts.Parts.{Parts}
 use Rattle.isa.proofs.Placed.{kind_within}

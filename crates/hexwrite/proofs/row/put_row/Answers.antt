@@ -51,10 +51,11 @@ pub returns : goal.returns
 unfolding head front sum
 returns c =
     let f = front_length c.args.at c.args.bytes.now in
+    let high : c.args.at / 256 % 256 ≡ c.args.at / 256 = omega arith in
     let p =
     after (58 ∷ []) (hex_bytes (head c.args.at c.args.bytes.now)) (58 ∷ hex_bytes (head c.args.at c.args.bytes.now)) c.args.text.now (set c.args.text.now c.args.n 58) c.args.n (c.args.n + 1) refl refl refl in
     let q =
-    after (58 ∷ hex_bytes (head c.args.at c.args.bytes.now)) (hex_bytes c.args.bytes.now) (front c.args.at c.args.bytes.now) c.args.text.now c.put_bytes.new.text c.args.n (c.args.n + 9) (c.put_bytes.ensures ∙ p) refl refl in
+    after (58 ∷ hex_bytes (head c.args.at c.args.bytes.now)) (hex_bytes c.args.bytes.now) (front c.args.at c.args.bytes.now) c.args.text.now c.put_bytes.new.text c.args.n (c.args.n + 9) (rw (c.to_be_bytes.ensures, high) at c.put_bytes.ensures ∙ p) refl refl in
     let r =
     after (front c.args.at c.args.bytes.now) (hex_byte (sum c.args.at c.args.bytes.now)) (front c.args.at c.args.bytes.now ++ hex_byte (sum c.args.at c.args.bytes.now)) c.args.text.now c.put_bytes-2.new.text c.args.n
     (c.args.n + 9 + 2 * length c.args.bytes.now) (c.put_bytes-2.ensures ∙ q) (omega arith) refl in
