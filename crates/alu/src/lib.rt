@@ -40,30 +40,35 @@ pub fn result(operation: Operation, a: u64, b: u64, c: u64) -> u64
     }
 }
 
-// For all threads.
+// For all threads. Inlined, so that the operation is taken where it stands, and not copied for the call.
+#[inline(always)]
 pub fn results(operation: Operation, sources: &[[u64; 32]; 3], out: &mut [u64; 32])
     requires { (length out.old ≡ 32) × SizedBy operation × RowsWithin operation sources.now }
     ensures { out.new ≡ tab 32 (result_at operation sources.now) }
 {
     match operation {
-        Operation::Mov(imm) => each(|_, _, _| u64::from(imm), sources, out),
-        Operation::GetSr => each(|a, _, _| a, sources, out),
-        Operation::Iadd(o) => each(|a, b, _| sums::iadd(o, a, b), sources, out),
-        Operation::Imadd(o) => each(|a, b, c| sums::imadd(o, a, b, c), sources, out),
-        Operation::Bfi(m) => each(|a, b, c| fields::bfi(m, a, b, c), sources, out),
-        Operation::Bfeil(m) => each(|a, b, c| fields::bfeil(m, a, b, c), sources, out),
-        Operation::Extr(m) => each(|a, b, c| fields::extr(m, a, b, c), sources, out),
-        Operation::Shlhi(m) => each(|a, b, c| fields::shlhi(m, a, b, c), sources, out),
-        Operation::Shrhi(m) => each(|a, b, c| fields::shrhi(m, a, b, c), sources, out),
-        Operation::Asr(size) => each(|a, b, _| signs::asr(size, a, b), sources, out),
-        Operation::Asrh(size) => each(|a, b, _| signs::asrh(size, a, b), sources, out),
-        Operation::Bitop(o) => each(|a, b, _| bitwise::bitop(o, a, b), sources, out),
-        Operation::Bitrev => each(|a, _, _| bitwise::bitrev(a), sources, out),
-        Operation::Popcount => each(|a, _, _| bitwise::popcount(a), sources, out),
-        Operation::Ffs => each(|a, _, _| bitwise::ffs(a), sources, out),
-        Operation::PopExec(n) => each(|_, _, c| nesting::pop_exec(n, c), sources, out),
-        Operation::IfIcmp(o) => each(|a, b, c| nesting::if_icmp(o, a, b, c), sources, out),
-        Operation::WhileIcmp(o) => each(|a, b, c| nesting::while_icmp(o, a, b, c), sources, out),
-        Operation::ElseIcmp(o) => each(|a, b, c| nesting::else_icmp(o, a, b, c), sources, out),
+        Operation::Mov(imm) => each(move |_, _, _| u64::from(imm), sources, out),
+        Operation::GetSr => each(move |a, _, _| a, sources, out),
+        Operation::Iadd(o) => each(move |a, b, _| sums::iadd(o, a, b), sources, out),
+        Operation::Imadd(o) => each(move |a, b, c| sums::imadd(o, a, b, c), sources, out),
+        Operation::Bfi(m) => each(move |a, b, c| fields::bfi(m, a, b, c), sources, out),
+        Operation::Bfeil(m) => each(move |a, b, c| fields::bfeil(m, a, b, c), sources, out),
+        Operation::Extr(m) => each(move |a, b, c| fields::extr(m, a, b, c), sources, out),
+        Operation::Shlhi(m) => each(move |a, b, c| fields::shlhi(m, a, b, c), sources, out),
+        Operation::Shrhi(m) => each(move |a, b, c| fields::shrhi(m, a, b, c), sources, out),
+        Operation::Asr(size) => each(move |a, b, _| signs::asr(size, a, b), sources, out),
+        Operation::Asrh(size) => each(move |a, b, _| signs::asrh(size, a, b), sources, out),
+        Operation::Bitop(o) => each(move |a, b, _| bitwise::bitop(o, a, b), sources, out),
+        Operation::Bitrev => each(move |a, _, _| bitwise::bitrev(a), sources, out),
+        Operation::Popcount => each(move |a, _, _| bitwise::popcount(a), sources, out),
+        Operation::Ffs => each(move |a, _, _| bitwise::ffs(a), sources, out),
+        Operation::PopExec(n) => each(move |_, _, c| nesting::pop_exec(n, c), sources, out),
+        Operation::IfIcmp(o) => each(move |a, b, c| nesting::if_icmp(o, a, b, c), sources, out),
+        Operation::WhileIcmp(o) => each(
+            move |a, b, c| nesting::while_icmp(o, a, b, c),
+            sources,
+            out,
+        ),
+        Operation::ElseIcmp(o) => each(move |a, b, c| nesting::else_icmp(o, a, b, c), sources, out),
     }
 }

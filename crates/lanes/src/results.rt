@@ -70,7 +70,9 @@ fn pairs(registers: &mut [u32], r: u8, mask: u32, values: &[u64; 32])
     put(registers, first + 1, mask, &column(values, 32));
 }
 
-// The results of the active threads, each modulo two to the destination's size.
+// The results of the active threads, each modulo two to the destination's size. Inlined, so that a mask instruction, which writes r0l of all
+// threads, has a loop for that alone.
+#[inline(always)]
 pub fn store(registers: &mut [u32], d: Destination, mask: u32, values: &[u64; 32])
     requires { 32 * destination_reach d ≤ length registers.old }
     ensures { registers.new ≡ store_all values.now mask d registers.old }

@@ -59,18 +59,19 @@ fn uniform_pair(uniforms: &[u32], r: u8) -> u64
 
 // ---- a row for each source
 
-fn source(registers: &[u32], uniforms: &[u32], s: Source) -> [u64; 32]
+// Each case puts its row in place itself: a row that is alike for all threads is then written once, and not made apart and copied.
+fn source(registers: &[u32], uniforms: &[u32], s: Source, row: &mut [u64; 32])
     requires { 32 * source_reach s ≤ length registers.now }
-    ensures { Row result (source_value registers.now uniforms.now s) (source_size s) }
+    ensures { Row row.new (source_value registers.now uniforms.now s) (source_size s) }
 {
     match s {
-        Source::Half(h) => halves(registers, h),
-        Source::Register(r) => words(registers, r),
-        Source::Pair(r) => pairs(registers, r),
-        Source::UniformHalf(h) => [uniform_half(uniforms, h); 32],
-        Source::UniformRegister(r) => [u64::from(uniform(uniforms, usize::from(r))); 32],
-        Source::UniformPair(r) => [uniform_pair(uniforms, r); 32],
-        Source::Immediate(v) => [u64::from(v); 32],
+        Source::Half(h) => *row = halves(registers, h),
+        Source::Register(r) => *row = words(registers, r),
+        Source::Pair(r) => *row = pairs(registers, r),
+        Source::UniformHalf(h) => *row = [uniform_half(uniforms, h); 32],
+        Source::UniformRegister(r) => *row = [u64::from(uniform(uniforms, usize::from(r))); 32],
+        Source::UniformPair(r) => *row = [uniform_pair(uniforms, r); 32],
+        Source::Immediate(v) => *row = [u64::from(v); 32],
     }
 }
 
@@ -81,10 +82,7 @@ fn input(registers: &[u32], uniforms: &[u32], specials: &[u32], x: Input, row: &
 {
     match x {
         Input::Nothing => {}
-        Input::Operand(a) => {
-            let s = a.source;
-            *row = source(registers, uniforms, s);
-        }
+        Input::Operand(a) => source(registers, uniforms, a.source, row),
         Input::Special(k) => *row = words(specials, k),
     }
 }

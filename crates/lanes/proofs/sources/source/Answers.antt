@@ -39,7 +39,7 @@ unfolding source_value
 returns-in-UniformHalf c =
     source_made c.args.registers.now c.args.uniforms.now _ c.args.s (Source.UniformHalf c.in-UniformHalf.h) _ c.in-UniformHalf.is
     (row_alike _)
-    (λ t. c.uniform_half.ensures)
+    (λ t. c.uniform_half-row.ensures)
     (λ t. half_below c.in-UniformHalf.h (get_or c.args.uniforms.now (c.in-UniformHalf.h / 2) 0) (c.type_inv.uniforms (c.in-UniformHalf.h / 2)).fits)
 
 pub returns-in-UniformRegister : goal.returns-in-UniformRegister
@@ -55,7 +55,7 @@ unfolding source_value
 returns-in-UniformPair c =
     source_made c.args.registers.now c.args.uniforms.now _ c.args.s (Source.UniformPair c.in-UniformPair.r) _ c.in-UniformPair.is
     (row_alike _)
-    (λ t. c.uniform_pair.ensures)
+    (λ t. c.uniform_pair-row.ensures)
     (λ t. pair_below (get_or c.args.uniforms.now c.in-UniformPair.r 0) (get_or c.args.uniforms.now (c.in-UniformPair.r + 1) 0) (c.type_inv.uniforms c.in-UniformPair.r).fits (c.type_inv.uniforms (c.in-UniformPair.r + 1)).fits)
 
 pub returns-in-Immediate : goal.returns-in-Immediate
