@@ -2,7 +2,7 @@
 ghost use Rattle.std.specs.Prelude.{◌≡◌, ◌+◌, ◌<◌, ◌^◌};
 ghost use Rattle.compare.specs.Here.{here_at};
 
-use parts::parts_of;
+use decodeparts::decode_parts;
 use turns::Here;
 
 #[derive(Clone, Copy)]
@@ -26,8 +26,7 @@ impl<'a> Reader<'a> {
         if self.code.len() <= self.address {
             return Ok(None);
         }
-        let (i, n) = decode::decode(&self.code[self.address..])?;
-        Ok(Some((parts_of(i), n)))
+        Ok(Some(decode_parts(&self.code[self.address..])?))
     }
 
     // So many bytes further on
