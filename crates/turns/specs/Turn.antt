@@ -31,6 +31,25 @@ abbrev pub agreed : Option Field → ℕ → ℕ → Turn ℕ
 agreed None n at = Continue n
 agreed (Some f) n at = Break (Comparison.Differs at f)
 
+-- the same, without which instruction it is
+abbrev pub Standing : Type 0
+Standing = Result (Option ⊤) Refusal
+
+abbrev pub standing_of : Here → Standing
+standing_of (Err r) = Err r
+standing_of (Ok None) = Ok None
+standing_of (Ok (Some x)) = Ok (Some tt)
+
+-- with the difference of the two instructions, of which the first has n bytes
+abbrev pub turn_by : Standing → Standing → Option Field → ℕ → ℕ → Turn ℕ
+turn_by (Err r) two d n at = Break (Comparison.Refused at r Kernel.First)
+turn_by (Ok None) (Err r) d n at = Break (Comparison.Refused at r Kernel.Second)
+turn_by (Ok None) (Ok None) d n at = Break Comparison.Same
+turn_by (Ok None) (Ok (Some y)) d n at = Break (Comparison.Ended at Kernel.First)
+turn_by (Ok (Some x)) (Err r) d n at = Break (Comparison.Refused at r Kernel.Second)
+turn_by (Ok (Some x)) (Ok None) d n at = Break (Comparison.Ended at Kernel.Second)
+turn_by (Ok (Some x)) (Ok (Some y)) d n at = agreed d n at
+
 abbrev pub turn_between : Here → Here → ℕ → Turn ℕ
 turn_between (Err r) two at = Break (Comparison.Refused at r Kernel.First)
 turn_between (Ok None) (Err r) at = Break (Comparison.Refused at r Kernel.Second)
