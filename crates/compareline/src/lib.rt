@@ -44,7 +44,10 @@ pub fn write(c: Comparison, text: &mut [u8]) -> Option<usize>
 {
     match c {
         Comparison::Same => write_same(text),
-        Comparison::Differs(at, field) => write_at(text, at, word::of_field(field, &mut [0; 8])),
+        Comparison::Differs(at, field) => {
+            let words = word::of_field(field);
+            write_at(text, at, &words.text[..words.length])
+        }
         Comparison::Ended(at, k) => write_at(text, at, &word::of_ended(k)),
         Comparison::Refused(at, r, k) => write_at(text, at, &word::of_refused(r, k)),
     }

@@ -3,42 +3,76 @@ ghost use Rattle.std.specs.Prelude.{◌≡◌, ◌<◌};
 ghost use Rattle.comparison.specs.AnswerLine.{word_of, kernel_number, ended_words, refused_words, Short};
 ghost use Rattle.comparison.specs.declared.Field.{Field};
 ghost use Rattle.digits.specs.Digits.{digit};
+ghost use Rattle.compareline.specs.Words.{Says};
 
 use comparison::{Field, Kernel};
 use isa::answer;
 use isa::answer::Refusal;
 
-fn of_other<'a>(bit: u8, room: &'a mut [u8; 8]) -> &'a [u8]
+// The first `length` characters of a text of eleven; blanks follow. By value: a slice of a lent room would say nothing of what is left in it.
+#[derive(Clone, Copy)]
+pub struct Words {
+    pub text: [u8; 11],
+    pub length: usize,
+}
+
+fn of_other(bit: u8) -> Words
     requires { bit < 100 }
-    ensures { result.now ≡ word_of (Field.Other bit) }
+    ensures { Says result (word_of (Field.Other bit)) }
 {
-    *room = *b"field 00";
+    let mut text = *b"field      ";
     if bit < 10 {
-        room[6] = digits::hex_digit(bit);
-        &room[..7]
+        text[6] = digits::hex_digit(bit);
+        Words { text, length: 7 }
     } else {
-        room[6] = digits::hex_digit(bit / 10);
-        room[7] = digits::hex_digit(bit % 10);
-        room
+        text[6] = digits::hex_digit(bit / 10);
+        text[7] = digits::hex_digit(bit % 10);
+        Words { text, length: 8 }
     }
 }
 
-// The number of another field is written into the room.
-pub fn of_field<'a>(field: Field, room: &'a mut [u8; 8]) -> &'a [u8]
+pub fn of_field(field: Field) -> Words
     requires { Short field }
-    ensures { result.now ≡ word_of field }
+    ensures { Says result (word_of field) }
 {
     match field {
-        Field::Instruction => b"instruction",
-        Field::Length => b"length",
-        Field::Destination => b"destination",
-        Field::SourceA => b"source A",
-        Field::SourceB => b"source B",
-        Field::SourceC => b"source C",
-        Field::Immediate => b"immediate",
-        Field::Other(bit) => of_other(bit, room),
-        Field::Hint => b"hint",
-        Field::Bit => b"bit",
+        Field::Instruction => Words {
+            text: *b"instruction",
+            length: 11,
+        },
+        Field::Length => Words {
+            text: *b"length     ",
+            length: 6,
+        },
+        Field::Destination => Words {
+            text: *b"destination",
+            length: 11,
+        },
+        Field::SourceA => Words {
+            text: *b"source A   ",
+            length: 8,
+        },
+        Field::SourceB => Words {
+            text: *b"source B   ",
+            length: 8,
+        },
+        Field::SourceC => Words {
+            text: *b"source C   ",
+            length: 8,
+        },
+        Field::Immediate => Words {
+            text: *b"immediate  ",
+            length: 9,
+        },
+        Field::Other(bit) => of_other(bit),
+        Field::Hint => Words {
+            text: *b"hint       ",
+            length: 4,
+        },
+        Field::Bit => Words {
+            text: *b"bit        ",
+            length: 3,
+        },
     }
 }
 
