@@ -1,14 +1,14 @@
 // Pairs of hexadecimal digits at a place of a text, and the end of a line.
 #![tactic(auto)]
 
-ghost use Rattle.std.specs.Prelude.{◌≡◌, true, ◌+◌, ◌*◌, ◌≤◌, ◌<◌, IfSome, length, drop};
+ghost use Rattle.std.specs.Prelude.{◌≡◌, true, ◌+◌, ◌*◌, ◌≤◌, ◌<◌, MatchOption, length, drop};
 ghost use Rattle.std.proofs.lemmas.List.Edits.{sets};
 ghost use Rattle.hexpairs.specs.Pairs.{digit_value, pair_value, pairs, spelled};
 ghost use Rattle.hexpairs.specs.Reads.{byte_in, counted, sum_by, end_size};
 
 // The number that a digit stands for.
 fn value(c: u8) -> Option<u8>
-    ensures { (result ≡ byte_in (digit_value c)) × IfSome result (λ n. n < 16) }
+    ensures { MatchOption result (digit_value c ≡ 256) (λ n. (digit_value c ≡ n) × (n < 16)) }
 {
     match c {
         b'0'..=b'9' => Some(c - b'0'),
@@ -16,6 +16,16 @@ fn value(c: u8) -> Option<u8>
         b'a'..=b'f' => Some(c - b'a' + 10),
         _ => None,
     }
+}
+
+// The number of the pair at a place: the byte that it spells; where one of the two is no digit, 256 or above, and it says which.
+pub fn number_at(text: &[u8], at: usize) -> usize
+    requires { at + 2 ≤ length text.now }
+    ensures { (result ≡ pair_value (drop at text.now)) × (result ≤ 4352) }
+{
+    let high = value(text[at]).map_or(256, usize::from);
+    let low = value(text[at + 1]).map_or(256, usize::from);
+    16 * high + low
 }
 
 // The byte that the pair at a place spells; none where one of the two is no digit.
@@ -42,14 +52,15 @@ pub fn sum(text: &[u8], at: usize, n: usize) -> Option<u8>
 
 // The bytes that n pairs spell, put into a buffer.
 // A place in a lent buffer, since the caller lends all the room at once: no heap, and `sets` in the clause is of the whole buffer.
+// By `number_at`, with no test in the loop: with one the compiler never puts sixteen bytes at once, and texts with rows of 32 bytes or more
+// take a quarter to a third longer to read.
+#[inline(always)]
 pub fn put(out: &mut [u8], n: usize, text: &[u8], at: usize, count: usize)
     requires { (n + count ≤ length out.old) × (at + 2 * count ≤ length text.now) × (pairs count (drop at text.now) ≡ true) }
     ensures { out.new ≡ sets out.old n (spelled count (drop at text.now)) }
 {
     for i in 0..count {
-        if let Some(byte) = pair_at(text, at + 2 * i) {
-            out[n + i] = byte;
-        }
+        out[n + i] = number_at(text, at + 2 * i) as u8;
     }
 }
 
