@@ -8,7 +8,7 @@ use mathlib.Core.Bool.{Bool, true, false, cond}
 use mathlib.Core.List.{List, ◌++◌}
 use Prim.Native.Nat.{ℕ, ◌-◌, ◌≤◌, ◌<◌}
 use native.Mathlib.Omega.{arith}
-use borrow.Author.Tests.{le-leb, lt-leb}
+use borrow.Author.Tests.{le-leb, lt-leb, leb-true, leb-false}
 use lib.Dec.{leb}
 use lib.IntN.{ℤ, pos}
 use lib.ListN.{length, take, drop, length-drop}
@@ -33,11 +33,11 @@ use Rattle.decodeat.specs.DecodeAt.{DecodesInto, form_left, length_decoded, form
 
 -- ---- what was decoded, by its parts
 
-was_refused : (d : Decoded) (r : Refusal) → Err r ≡ parts_decoded d → d ≡ Err r
+pub was_refused : (d : Decoded) (r : Refusal) → Err r ≡ parts_decoded d → d ≡ Err r
 was_refused (Ok (i, n)) r e = cc
 was_refused (Err q) r e = let z : r ≡ q = cc in ap (λ (x : Refusal). Err x) (sym z)
 
-was_found : (d : Decoded) (p : Parts) (n : ℕ) → Ok (p, n) ≡ parts_decoded d → (i : Instruction) × (d ≡ Ok (i, n)) × (p ≡ parts_of i)
+pub was_found : (d : Decoded) (p : Parts) (n : ℕ) → Ok (p, n) ≡ parts_decoded d → (i : Instruction) × (d ≡ Ok (i, n)) × (p ≡ parts_of i)
 was_found (Ok (i, m)) p n e =
     let z = ok_pair_parts p (parts_of i) n m e in
     (i, ap (λ (k : ℕ). Ok (i, k)) (sym z.1), z.0)
@@ -177,19 +177,52 @@ small code offset instruction r left h = subst (λ (x : Encoded). count_of x ≤
     go (Ok (i, n)) e = (found-length (drop offset code) i n (decoded-there code offset instruction i n e)).1
     go (Err r) e = omega arith
 
-pub as_number : (code : List ℕ) → Bytes code → (offset : ℕ) (instruction : List ℕ) (r : Encoded) (left : List ℕ) (z : ℤ)
-    → DecodesInto code offset instruction r left → z ≡ encoded_by r → DecodesAt code offset instruction z left
-as_number code hs offset instruction r left z h e =
-    record {
-      returns = e ∙ ap encoded_by h.returns ∙ number (decoded_at code offset instruction);
-      leaves = h.leaves;
-      spells = λ i n f.
-          let there = decoded-there code offset instruction i n f in
-          ap (λ (t : List ℕ). spelled_of (take form_length t)) (h.leaves ∙ ap (λ (d : Decoded). form_left d instruction) f)
-          ∙ ap spelled_of (form_first i instruction)
-          ∙ form_spelled i (decoded_fits (drop offset code) (bytes_drop offset code hs) i n there);
-    }
-  where
-    number : (d : Decoded) → encoded_by (length_decoded d) ≡ decoded_by d
-    number (Ok (i, n)) = refl
-    number (Err r) = refl
+-- as a number, in each of the four cases
+module _ (code : List ℕ) (hs : Bytes code) (offset : ℕ) (instruction : List ℕ) (r : Encoded) (left : List ℕ) (z : ℤ)
+    (h : DecodesInto code offset instruction r left) (e : z ≡ encoded_by r) where
+  number : (d : Decoded) → decoded_at code offset instruction ≡ d → z ≡ decoded_by d
+  number d f = e ∙ ap encoded_by (h.returns ∙ ap length_decoded f) ∙ same d
+    where
+      same : (x : Decoded) → encoded_by (length_decoded x) ≡ decoded_by x
+      same (Ok (i, n)) = refl
+      same (Err q) = refl
+
+  left_by : (d : Decoded) → decoded_at code offset instruction ≡ d → left ≡ form_left d instruction
+  left_by d f = h.leaves ∙ ap (λ (x : Decoded). form_left x instruction) f
+
+  untouched : (q : Refusal) → decoded_at code offset instruction ≡ Err q → DecodesAt code offset instruction z instruction
+      → DecodesAt code offset instruction z left
+  untouched q f w = subst (λ (t : List ℕ). DecodesAt code offset instruction z t) (sym (left_by (Err q) f)) w
+
+  pub as_number : DecodesAt code offset instruction z left
+  as_number = by_offset (leb offset (length code)) refl
+    where
+      by_room : (g : offset ≤ length code) (i : Instruction) (n : ℕ) → decode_of (take (length code - offset) (drop offset code)) ≡ Ok (i, n)
+          → (b : Bool) → leb form_length (length instruction) ≡ b → DecodesAt code offset instruction z left
+      by_room g i n d true b =
+          let room = leb-true form_length (length instruction) b in
+          let f : decoded_at code offset instruction ≡ Ok (i, n) =
+          there-decoded code offset instruction z g _ refl ∙ ap (λ (x : Decoded). with_room x (length instruction)) d ∙ rw b in
+          found code offset instruction z g _ refl i n d room (number (Ok (i, n)) f) (form_of i) left
+          (refl, form_spelled i (decoded_fits (drop offset code) (bytes_drop offset code hs) i n (decoded-there code offset instruction i n f)))
+          (left_by (Ok (i, n)) f ∙ sym (put_first instruction (form_of i) form_length (form_length_lem i) room))
+      by_room g i n d false b =
+          let f : decoded_at code offset instruction ≡ Err (refusal 1) =
+          there-decoded code offset instruction z g _ refl ∙ ap (λ (x : Decoded). with_room x (length instruction)) d ∙ rw b in
+          untouched (refusal 1) f
+          (no_room code offset instruction z g _ refl i n d (leb-false form_length (length instruction) b) (number (Err (refusal 1)) f))
+
+      by_decoded : (g : offset ≤ length code) (d : Decoded) → decode_of (take (length code - offset) (drop offset code)) ≡ d
+          → DecodesAt code offset instruction z left
+      by_decoded g (Ok (i, n)) d = by_room g i n d (leb form_length (length instruction)) refl
+      by_decoded g (Err q) d =
+          let f : decoded_at code offset instruction ≡ Err q =
+          there-decoded code offset instruction z g _ refl ∙ ap (λ (x : Decoded). with_room x (length instruction)) d in
+          untouched q f (refused code offset instruction z g _ refl q d (number (Err q) f))
+
+      by_offset : (b : Bool) → leb offset (length code) ≡ b → DecodesAt code offset instruction z left
+      by_offset true b = by_decoded (leb-true offset (length code) b) (decode_of (take (length code - offset) (drop offset code))) refl
+      by_offset false b =
+          let g = leb-false offset (length code) b in
+          let f = nothing_there code offset instruction g in
+          untouched (refusal 1) f (past_the_code code offset instruction z g (number (Err (refusal 1)) f))
